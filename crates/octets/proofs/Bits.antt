@@ -123,10 +123,10 @@ pub octet-left : (n : ℕ) → leftAt (n * 8) ≡ 0
 unfolding leftAt
 octet-left n = omega arith
 
-octet-bits : (s : List ℕ) (n : ℕ) → bitsAt s (n * 8) ≡ 0
+pub octet-bits : (s : List ℕ) (n : ℕ) → bitsAt s (n * 8) ≡ 0
 unfolding bitsAt
 octet-bits s n = rw (octet-left n) (mod-one (getD s (n * 8 / 8) 0))
 
-octet-behind : (s : List ℕ) (n : ℕ) → behind s (n * 8) ≡ drop n s
+pub octet-behind : (s : List ℕ) (n : ℕ) → behind s (n * 8) ≡ drop n s
 unfolding behind
 octet-behind s n = let e : (n * 8 + 7) / 8 ≡ n = omega arith in rw e
