@@ -74,6 +74,15 @@ is-sound : (n : ℕ) → leb (countAt n + cond (eqb (formAt n) 1) 1 0) 4 && cond
 unfolding Said said kept
 is-sound n = sym (ap (λ (p : Said). p .2) (all n))
 
+-- only a message has a form below 3
+pub known : (n : ℕ) → formAt n < 3 → n < 43
+unfolding formAt packedAt packed
+known n h = go (ltb n 43) refl
+  where
+    go : (t : Bool) → ltb n 43 ≡ t → n < 43
+    go true e = ltb-true n 43 e
+    go false e = absurd (let l = rw (List·getD-eq-default packed 0x77770030 {n = n} (ltb-false n 43 e)) at h in omega arith)
+
 few : (n : ℕ) → countAt n + cond (eqb (formAt n) 1) 1 0 ≤ 4
 few n = leb-true _ _ (both-left (leb (countAt n + cond (eqb (formAt n) 1) 1 0) 4) (cond (eqb (formAt n) 1) (eqb (tailAt n) 0) true) (is-sound n))
 
