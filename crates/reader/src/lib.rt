@@ -308,7 +308,8 @@ pub struct Decoded {
     pub ids: [u16; LIST_LIMIT],
 }
 
-fn refused(n: u8) -> Decoded
+// No message, and why.
+pub fn refused(n: u8) -> Decoded
     ensures { λ r. ⌜ (r .ok ≡ false) × (r .refusal ≡ n) ⌝ }
 {
     let values = [0u32; 4];
