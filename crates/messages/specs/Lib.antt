@@ -1,0 +1,4 @@
+pub mod Limits
+pub mod Messages
+pub mod Codec
+pub mod Columns
