@@ -1,3 +1,4 @@
 pub mod CodecLaws
 pub mod ColumnLaws
 pub mod Theorems
+pub mod NamedLaws

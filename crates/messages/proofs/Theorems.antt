@@ -9,7 +9,7 @@ use Rattle.messages.specs.Messages.{Row, plain, optional, uncovered, unk
 use Rattle.messages.specs.Codec.{Msg, fitsRow, octetsOfMsg, ok, sized, decode, encode}
 use Rattle.messages.proofs.CodecLaws.{octets-read, octets-only, taken}
 
-within-covered : (R : Row) (vs items : List ℕ) → fitsRow R vs items ≡ true → covers R ≡ true
+pub within-covered : (R : Row) (vs items : List ℕ) → fitsRow R vs items ≡ true → covers R ≡ true
 within-covered (plain fs t) vs items h = refl
 within-covered (optional fs f) vs items h = refl
 within-covered uncovered vs items h = h
