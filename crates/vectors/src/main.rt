@@ -5,9 +5,12 @@ mod numbers;
 mod reading;
 mod room;
 mod writing;
-use libc::{STDIN_FILENO, STDOUT_FILENO};
+
+use libc::STDIN_FILENO;
+use libc::STDOUT_FILENO;
 
 const READ: u8 = 0;
+
 const WRITE: u8 = 1;
 
 // The line of a frame: a kind, and its body. A frame that is neither kind gives a question mark.

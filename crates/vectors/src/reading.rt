@@ -1,13 +1,18 @@
 // A message that is read: its number, values and items, and whether it is written again as it was.
 use crate::line;
 use crate::room;
-use crate::room::PATTERN;
 use reader::Decoded;
 use writer::Wrote;
 
 // Whether the message is written as these octets, with those behind them left as they were.
-fn is_written_again(number: u32, values: &[u32], ids: &[u16], octets: &[u8], message: &[u8]) -> bool {
-    let mut out = [PATTERN; 1032];
+fn is_written_again(
+    number: u32,
+    values: &[u32],
+    ids: &[u16],
+    octets: &[u8],
+    message: &[u8],
+) -> bool {
+    let mut out = room::fresh();
     let wrote = writer::encode(number, values, ids, octets, &mut out);
     match wrote {
         Wrote::Upto(n) => {
@@ -31,7 +36,14 @@ fn put_items(text: &mut [u8], at: usize, is_string: bool, ids: &[u16], octets: &
 }
 
 // `number value ..`, the items, and the mark: that the message is written again as it was.
-fn put_message(text: &mut [u8], d: Decoded, values: &[u32], ids: &[u16], octets: &[u8], message: &[u8]) -> usize {
+fn put_message(
+    text: &mut [u8],
+    d: Decoded,
+    values: &[u32],
+    ids: &[u16],
+    octets: &[u8],
+    message: &[u8],
+) -> usize {
     let is_same = is_written_again(d.number, values, ids, octets, message);
     let head = line::put_number(text, 0, d.number);
     let next = line::put_values(text, head, values);

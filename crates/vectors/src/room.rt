@@ -1,6 +1,15 @@
 // The room that the writer is lent: filled with a pattern, so that it shows what was touched.
+ghost use mathlib.Core.Path.{_≡_};
+ghost use lib.ListN.{length};
 
-pub const PATTERN: u8 = 0xA5;
+const PATTERN: u8 = 0xA5;
+
+// A fresh room, larger than any message.
+pub fn fresh() -> [u8; 1100]
+    ensures { λ r. ⌜ 1100 ≡ length r ⌝ }
+{
+    [PATTERN; 1100]
+}
 
 // Whether the room holds the pattern from an index on.
 pub fn is_untouched(room: &[u8], from: usize) -> bool {

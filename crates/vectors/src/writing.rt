@@ -2,7 +2,6 @@
 use crate::line;
 use crate::numbers;
 use crate::room;
-use crate::room::PATTERN;
 use writer::Wrote;
 
 // The line of n octets written: these, and the mark, that all behind them stayed.
@@ -29,7 +28,15 @@ fn put_outcome(text: &mut [u8], wrote: Wrote, out: &[u8]) -> usize {
 }
 
 // A message, written into the first `size` octets of a larger room.
-fn put_written(text: &mut [u8], number: u32, values: &[u32], ids: &[u16], octets: &[u8], size: usize, out: &mut [u8]) -> usize {
+fn put_written(
+    text: &mut [u8],
+    number: u32,
+    values: &[u32],
+    ids: &[u16],
+    octets: &[u8],
+    size: usize,
+    out: &mut [u8],
+) -> usize {
     if out.len() < size {
         return line::put(text, 0, b'?');
     }
@@ -42,7 +49,7 @@ fn put_taken(text: &mut [u8], body: &[u8], values: &[u32], ids: &[u16], rest: us
     if body.len() < rest {
         return line::put(text, 0, b'?');
     }
-    let mut out = [PATTERN; 1100];
+    let mut out = room::fresh();
     let number = numbers::octet(body, 0);
     let size = numbers::pair(body, 1) as usize;
     put_written(text, number, values, ids, &body[rest..], size, &mut out)

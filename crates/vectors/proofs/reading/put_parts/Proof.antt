@@ -1,54 +1,39 @@
+-- `vectors::reading::put_parts` is safe and ends. Assumes nothing.
 use Rattle.vectors.proofs.Parts.{part-length}
 use borrow.Author.Needs.{needs}
 use Rattle.vectors.proofs.reading.put_parts.Statement.{statement}
 use Rattle.vectors.proofs.reading.put_parts.Tie as tie
-use Rattle.vectors.proofs.reading.put_parts.Reads as reads
-use Rattle.vectors.proofs.reading.put_parts.Lts as lts
-use Rattle.vectors.proofs.line.put.Reads as put-reads
-use Rattle.vectors.proofs.reading.put_list.Reads as put-list-reads
-use Rattle.vectors.proofs.reading.put_string.Reads as put-string-reads
 
--- src/reading.rt:69:9
 put-requires : tie.Need-put-requires
 put-requires c κs = search needs
 
--- src/reading.rt:69:9
 same-length : tie.Need-same-length
 same-length c = search needs
 
--- src/reading.rt:69:9
 returns : tie.Need-returns
 returns c = search needs
 
--- src/reading.rt:72:29
 slice-aggregate-put-string : tie.Need-slice-aggregate-put-string
 slice-aggregate-put-string c = search (needs, part-length)
 
--- src/reading.rt:72:9
 put-string-requires : tie.Need-put-string-requires
 put-string-requires c κs = search needs
 
--- src/reading.rt:74:27
 slice-aggregate-put-list : tie.Need-slice-aggregate-put-list
 slice-aggregate-put-list c = search (needs, part-length)
 
--- src/reading.rt:74:9
 put-list-requires : tie.Need-put-list-requires
 put-list-requires c κs = search needs
 
--- src/reading.rt:66:1
 same-length-2 : tie.Need-same-length-2
 same-length-2 c = search needs
 
--- src/reading.rt:66:1
 returns-2 : tie.Need-returns-2
 returns-2 c = search needs
 
--- src/reading.rt:66:1
 same-length-3 : tie.Need-same-length-3
 same-length-3 c = search needs
 
--- src/reading.rt:66:1
 returns-3 : tie.Need-returns-3
 returns-3 c = search needs
 

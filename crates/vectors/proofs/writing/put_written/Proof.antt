@@ -1,50 +1,36 @@
+-- `vectors::writing::put_written` is safe and ends. Assumes nothing.
 use Rattle.vectors.proofs.Parts.{part-length}
 use borrow.Author.Needs.{needs}
 use Rattle.vectors.proofs.writing.put_written.Statement.{statement}
 use Rattle.vectors.proofs.writing.put_written.Tie as tie
-use Rattle.vectors.proofs.writing.put_written.Reads as reads
-use Rattle.vectors.proofs.writing.put_written.Lts as lts
-use Rattle.codec.proofs.encode.Reads as encode-reads
-use Rattle.vectors.proofs.line.put.Reads as put-reads
-use Rattle.vectors.proofs.writing.put_outcome.Reads as put-outcome-reads
 
--- src/writing.rt:34:9
 put-requires : tie.Need-put-requires
 put-requires c κs = search needs
 
--- src/writing.rt:34:9
 same-length : tie.Need-same-length
 same-length c = search needs
 
--- src/writing.rt:34:9
 returns : tie.Need-returns
 returns c = search needs
 
--- src/writing.rt:36:60
 slice-relend-prefix-encode : tie.Need-slice-relend-prefix-encode
 slice-relend-prefix-encode c = search needs
 
--- src/writing.rt:36:60
 slice-aggregate-encode : tie.Need-slice-aggregate-encode
 slice-aggregate-encode c = search (needs, part-length)
 
--- src/writing.rt:36:9
 encode-requires : tie.Need-encode-requires
 encode-requires c κs = search needs
 
--- src/writing.rt:37:5
 put-outcome-requires : tie.Need-put-outcome-requires
 put-outcome-requires c κs = search needs
 
--- src/writing.rt:32:1
 same-length-2 : tie.Need-same-length-2
 same-length-2 c = search needs
 
--- src/writing.rt:32:1
 same-length-3 : tie.Need-same-length-3
 same-length-3 c = search needs
 
--- src/writing.rt:32:1
 returns-2 : tie.Need-returns-2
 returns-2 c = search needs
 
