@@ -1,0 +1,140 @@
+-- The packed table is that of Messages, by one test that antt computes over the 43 numbers; and what follows for every number. Assumes
+-- nothing.
+use mathlib.Core.Path.{_≡_, refl, sym, ap, _∙_}
+use mathlib.Core.Bool.{Bool, true, false, cond, _&&_, not}
+use mathlib.Core.List.{List, [], _∷_, _++_, map}
+use Prim.Native.Nat.{ℕ, zero, suc, _+_, _*_, _/_, _%_, _^_, _<_, _≤_}
+use native.Mathlib.Nat.{add-zero, add-suc, suc-add, zero-add}
+use native.Mathlib.Omega.{arith}
+use lib.ListN.{length, getD, take, length-map, List·getD-map, List·getD-eq-default}
+use lib.Seq.{getD-take, length-take-le}
+use lib.Dec.{leb, ltb, eqb}
+use borrow.Author.Tests.{eq-eqb, leb-true, ltb-true, ltb-false}
+use Rattle.octets.specs.Octets.{aNumber, Tail, nothing}
+use Rattle.octets.proofs.OctetLaws.{both-left, both-right}
+use Rattle.messages.specs.Messages.{Field, item, result, diagnostic, reason, status, channel, user, token, height, Row, unknown, Way, down, table, entry, row, may-go-up, is-served, is-covered}
+use Rattle.messages.specs.Columns.{packed, packedAt, digit, wayAt, formAt, tailAt, countAt, kindsAt, kindAt, wayOf, fieldOf, tailOf, fieldsOf, lastField, rowFrom}
+
+-- a test over the numbers from 0 on
+range : ℕ → ℕ → List ℕ
+range i zero = []
+range i (suc k) = i ∷ range (suc i) k
+
+from : {A : Type 0} (f g : ℕ → A) (i k : ℕ) → map f (range i k) ≡ map g (range i k) → (n : ℕ) → n < k → f (i + n) ≡ g (i + n)
+unfolding range
+from f g i zero e n h = absurd (omega arith)
+from f g i (suc k) e zero h = rw add-zero (cc)
+from f g i (suc k) e (suc n) h = let t : map f (range (suc i) k) ≡ map g (range (suc i) k) = cc in rw (add-suc, ← suc-add) (from f g (suc i) k t n (omega arith))
+
+each : {A : Type 0} (f g : ℕ → A) (k : ℕ) → map f (range 0 k) ≡ map g (range 0 k) → (n : ℕ) → n < k → f n ≡ g n
+each f g k e n h = rw zero-add at (from f g 0 k e n h)
+
+-- what Messages says of a number, and what its digits say; at most four fields, and nothing behind an OPTIONAL one
+Said : Type 0
+Said = (Way × Row) × (Bool × Bool × Bool) × Bool
+
+said : ℕ → Said
+unfolding Said
+said n = (entry n, (may-go-up n, is-served n, is-covered n), true)
+
+kept : ℕ → Said
+unfolding Said
+kept n = (
+  (wayOf (wayAt n), rowFrom n),
+  (not (eqb (wayAt n) 0), eqb (wayAt n) 2, ltb (formAt n) 2),
+  leb (countAt n + cond (eqb (formAt n) 1) 1 0) 4 && cond (eqb (formAt n) 1) (eqb (tailAt n) 0) true,
+)
+
+-- the test
+all : (n : ℕ) → said n ≡ kept n
+unfolding range Said said kept entry row may-go-up is-served is-covered rowFrom lastField fieldsOf fieldOf tailOf wayOf wayAt formAt tailAt countAt kindsAt kindAt packedAt packed
+all n = go (ltb n 43) refl
+  where
+    go : (t : Bool) → ltb n 43 ≡ t → said n ≡ kept n
+    go true e = each said kept 43 refl n (ltb-true n 43 e)
+    go false e = rw (List·getD-eq-default table (down, unknown) {n = n} (ltb-false n 43 e), List·getD-eq-default packed 0x77770030 {n = n} (ltb-false n 43 e))
+
+pub row-from : (n : ℕ) → row n ≡ rowFrom n
+unfolding Said said kept row
+row-from n = ap (λ (p : Said). p .0 .1) (all n)
+
+pub up-from : (n : ℕ) → may-go-up n ≡ not (eqb (wayAt n) 0)
+unfolding Said said kept
+up-from n = ap (λ (p : Said). p .1 .0) (all n)
+
+pub served-from : (n : ℕ) → is-served n ≡ eqb (wayAt n) 2
+unfolding Said said kept
+served-from n = ap (λ (p : Said). p .1 .1) (all n)
+
+pub covered-from : (n : ℕ) → is-covered n ≡ ltb (formAt n) 2
+unfolding Said said kept
+covered-from n = ap (λ (p : Said). p .1 .2) (all n)
+
+is-sound : (n : ℕ) → leb (countAt n + cond (eqb (formAt n) 1) 1 0) 4 && cond (eqb (formAt n) 1) (eqb (tailAt n) 0) true ≡ true
+unfolding Said said kept
+is-sound n = sym (ap (λ (p : Said). p .2) (all n))
+
+-- only a message has a form below 3
+pub known : (n : ℕ) → formAt n < 3 → n < 43
+unfolding formAt packedAt packed
+known n h = go (ltb n 43) refl
+  where
+    go : (t : Bool) → ltb n 43 ≡ t → n < 43
+    go true e = ltb-true n 43 e
+    go false e = absurd (let l = rw (List·getD-eq-default packed 0x77770030 {n = n} (ltb-false n 43 e)) at h in omega arith)
+
+few : (n : ℕ) → countAt n + cond (eqb (formAt n) 1) 1 0 ≤ 4
+few n = leb-true _ _ (both-left (leb (countAt n + cond (eqb (formAt n) 1) 1 0) 4) (cond (eqb (formAt n) 1) (eqb (tailAt n) 0) true) (is-sound n))
+
+pub count-few : (n : ℕ) → countAt n ≤ 4
+count-few n = omega (arith, few n)
+
+pub count-one-more : (n : ℕ) → formAt n ≡ 1 → countAt n + 1 ≤ 4
+count-one-more n e = rw (eq-eqb (formAt n) 1 e) at (few n)
+
+pub no-tail : (n : ℕ) → formAt n ≡ 1 → tailOf (tailAt n) ≡ nothing
+unfolding tailOf
+no-tail n e =
+    let h = both-right (leb (countAt n + cond (eqb (formAt n) 1) 1 0) 4) (cond (eqb (formAt n) 1) (eqb (tailAt n) 0) true) (is-sound n) in
+    rw (rw (eq-eqb (formAt n) 1 e) at h)
+
+-- the fields of a message
+pub kind-rest : (k : ℕ) → 7 ≤ k → fieldOf k ≡ item aNumber
+unfolding fieldOf
+kind-rest k h = List·getD-eq-default (result ∷ diagnostic ∷ reason ∷ status ∷ channel ∷ user ∷ token ∷ []) height h
+
+pub past : (i k : ℕ) → i ≤ k → (k ≡ i → ⊥) → i + 1 ≤ k
+past i k h n = omega arith
+
+-- what is none of the seven kinds before
+pub seventh : {k : ℕ} → (((((((Unit {0} × (k ≡ 0 → ⊥)) × (k ≡ 1 → ⊥)) × (k ≡ 2 → ⊥)) × (k ≡ 3 → ⊥)) × (k ≡ 4 → ⊥)) × (k ≡ 5 → ⊥)) × (k ≡ 6 → ⊥)) → 7 ≤ k
+seventh {k} r = past 6 k (past 5 k (past 4 k (past 3 k (past 2 k (past 1 k (past 0 k (omega arith) (r .0 .0 .0 .0 .0 .0 .1)) (r .0 .0 .0 .0 .0 .1)) (r .0 .0 .0 .0 .1)) (r .0 .0 .0 .1)) (r .0 .0 .1)) (r .0 .1)) (r .1)
+
+pub length-fields : (n count : ℕ) → count ≤ 4 → length (fieldsOf n count) ≡ count
+unfolding fieldsOf kindsAt
+length-fields n count c = length-map (take count (kindsAt n)) fieldOf ∙ length-take-le count (kindsAt n) c
+
+pub field-at : (n count i : ℕ) → i < count → getD (fieldsOf n count) i (fieldOf 7) ≡ fieldOf (kindAt n i)
+unfolding fieldsOf kindAt
+field-at n count i h = List·getD-map fieldOf (take count (kindsAt n)) i 7 ∙ ap fieldOf (getD-take count (kindsAt n) i 7 h)
+
+pub one-more : (n : ℕ) → formAt n ≡ 1 → fieldsOf n (countAt n + 1) ≡ fieldsOf n (countAt n) ++ lastField n ∷ []
+unfolding fieldsOf lastField kindAt kindsAt
+one-more n e = go (countAt n) (count-one-more n e)
+  where
+    go : (c : ℕ) → c + 1 ≤ 4 → map fieldOf (take (c + 1) (kindsAt n)) ≡ map fieldOf (take c (kindsAt n)) ++ fieldOf (getD (kindsAt n) c 7) ∷ []
+    go zero h = refl
+    go (suc zero) h = refl
+    go (suc (suc zero)) h = refl
+    go (suc (suc (suc zero))) h = refl
+    go (suc (suc (suc (suc c)))) h = absurd (omega arith)
+
+-- in the table, whatever stands behind its end
+pub within-table : (xs : List ℕ) (n d e : ℕ) → n < length xs → getD xs n d ≡ getD xs n e
+within-table [] n d e h = absurd (omega arith)
+within-table (x ∷ xs) zero d e h = refl
+within-table (x ∷ xs) (suc n) d e h = within-table xs n d e (omega arith)
+
+pub kind-none : (n i : ℕ) → (((((Unit {0} × (i ≡ 0 → ⊥)) × (i ≡ 1 → ⊥)) × (i ≡ 2 → ⊥)) × (i ≡ 3 → ⊥))) → 7 ≡ kindAt n i
+unfolding kindAt kindsAt
+kind-none n i r = sym (List·getD-eq-default (kindsAt n) 7 (past 3 i (past 2 i (past 1 i (past 0 i (omega arith) (r .0 .0 .0 .1)) (r .0 .0 .1)) (r .0 .1)) (r .1)))

@@ -1,0 +1,3 @@
+pub mod CodecLaws
+pub mod ColumnLaws
+pub mod Theorems

@@ -1,0 +1,16 @@
+use mathlib.Core.Path.{_≡_, refl, sym, ap, _∙_}
+use borrow.Author.Needs.{needs}
+use Rattle.messages.proofs.ColumnLaws.{covered-from}
+use Rattle.messages.specs.Columns.{formAt}
+use Rattle.messages.proofs.covered.Statement.{statement}
+use Rattle.messages.proofs.covered.Tie as tie
+
+entry-of-requires : tie.Need-entry-of-requires
+entry-of-requires c κs = search needs
+
+returns : tie.Need-returns
+unfolding formAt
+returns c = rw (c .entry-of .ensures) (sym (covered-from (c .before .args .number)))
+
+pub covered-spec : {M : Type 1} → statement M
+covered-spec = tie.close (tie.spec entry-of-requires returns)

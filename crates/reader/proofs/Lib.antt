@@ -1,0 +1,5 @@
+pub mod ItemLaws
+pub mod Loop
+pub mod RowLaws
+pub mod ListLaws
+pub mod BodyLaws

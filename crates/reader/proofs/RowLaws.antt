@@ -1,0 +1,102 @@
+-- A message by its number: what `decode_row` and `decode` answer. Assumes nothing.
+use mathlib.Core.Path.{_≡_, sym, ap, _∙_, subst}
+use mathlib.Core.Bool.{_&&_}
+use mathlib.Core.List.{List, [], _∷_, _++_}
+use Prim.Native.Nat.{ℕ, zero, suc, _+_, _-_, _*_, _/_, _%_, _^_, _<_, _≤_}
+use native.Mathlib.Nat.{mod-one}
+use native.Mathlib.Omega.{arith}
+use lib.ListN.{length, getD}
+use lib.Dec.{eqb}
+use borrow.Author.Tests.{eq-eqb, ne-eqb, lt-ltb, le-leb, lt-leb}
+use Rattle.messages.specs.Limits.{message-limit}
+use Rattle.octets.specs.Octets.{Read, follow, nothing}
+use Rattle.messages.specs.Messages.{code, kind, Row, plain, optional, uncovered, unknown, row}
+use Rattle.messages.specs.Codec.{takeField, takeBody, takeRow, chosen, Msg, Outcome, refuse, ending, decode}
+use Rattle.octets.specs.Places.{leftAt, bitsAt, behind, atBit}
+use Rattle.reader.specs.Reading.{TakesField, message, bodyAt, rowAt}
+use Rattle.messages.specs.Columns.{formAt, countAt, tailAt, fieldsOf, tailOf, lastField, rowFrom}
+use Rattle.reader.specs.declared.Decoded.{Decoded}
+use Rattle.octets.specs.declared.Got.{Got}
+use Rattle.octets.specs.declared.Got.the-variants.{Value, No}
+use Rattle.messages.proofs.ColumnLaws.{row-from, one-more, no-tail}
+
+ofPresence : ℕ → Read (ℕ × ℕ) → Outcome Msg
+ofPresence n x = ending (follow (follow x (λ p. takeBody (chosen (eqb (p .0) 1) (fieldsOf n (countAt n)) (lastField n)) nothing 1 (p .1))) (message n))
+
+module _ (s : List ℕ) (at n : ℕ) where
+  by-row : (R : Row) → row n ≡ R → rowAt s at n ≡ ending (follow (takeRow R (bitsAt s at) (behind s at)) (message n))
+  unfolding rowAt
+  by-row R e = ap (λ r. ending (follow (takeRow r (bitsAt s at) (behind s at)) (message n))) e
+
+  pub row-unknown : 2 < formAt n → rowAt s at n ≡ refuse 5
+  unfolding rowFrom
+  row-unknown u = by-row unknown (row-from n ∙ simp (ne-eqb (formAt n) 0 (λ e. omega arith), ne-eqb (formAt n) 1 (λ e. omega arith), ne-eqb (formAt n) 2 (λ e. omega arith)))
+
+  pub row-uncovered : formAt n ≡ 2 → rowAt s at n ≡ refuse 7
+  unfolding rowFrom
+  row-uncovered u = by-row uncovered (row-from n ∙ simp u)
+
+  pub row-plain : formAt n ≡ 0 → leftAt at ≡ 2 → rowAt s at n ≡ bodyAt s at (countAt n) n
+  unfolding rowFrom bodyAt
+  row-plain z l = by-row (plain (fieldsOf n (countAt n)) (tailOf (tailAt n))) (row-from n ∙ rw (eq-eqb (formAt n) 0 z)) ∙ rw l
+
+  module _ (z : formAt n ≡ 1) (l : leftAt at ≡ 2) (g : Got) (t : TakesField s at (code 1 1) g) where
+    optional-row : rowAt s at n ≡ ofPresence n (atBit s g)
+    unfolding rowFrom ofPresence
+    optional-row =
+        by-row (optional (fieldsOf n (countAt n)) (lastField n)) (row-from n ∙ simp (ne-eqb (formAt n) 0 (λ e. omega arith), eq-eqb (formAt n) 1 z))
+        ∙ ap (λ x. ofPresence n x) (subst (λ k. takeField (code 1 1) k (bitsAt s at) (behind s at) ≡ atBit s g) l (sym (t .same)))
+
+    tail-nothing : tailOf (tailAt n) ≡ nothing
+    tail-nothing = no-tail n z
+
+    pub row-no : (k : ℕ) → g ≡ No k → rowAt s at n ≡ refuse k
+    unfolding ofPresence
+    row-no k e = optional-row ∙ ap (λ q. ofPresence n (atBit s q)) e
+
+    module _ (v next : ℕ) (e : g ≡ Value v next) where
+      left-one : leftAt next ≡ 1
+      left-one = let b : TakesField s at (code 1 1) (Value v next) = rw e at t in rw l at (b .leaves)
+
+      pub row-present : v ≡ 1 → rowAt s at n ≡ bodyAt s next (countAt n + 1) n
+      unfolding bodyAt ofPresence
+      row-present k = optional-row ∙ ap (λ q. ofPresence n (atBit s q)) e ∙ rw (eq-eqb v 1 k, one-more n z, tail-nothing, left-one)
+
+      pub row-absent : (v ≡ 1 → ⊥) → rowAt s at n ≡ bodyAt s next (countAt n) n
+      unfolding bodyAt ofPresence
+      row-absent k = optional-row ∙ ap (λ q. ofPresence n (atBit s q)) e ∙ rw (ne-eqb v 1 k, tail-nothing, left-one)
+
+-- a whole message
+ofNumber : Read (ℕ × ℕ) → Outcome Msg
+ofNumber x = ending (follow x (λ n os. follow (takeRow (row (n .0)) (n .1) os) (message (n .0))))
+
+module _ (s : List ℕ) where
+  pub decode-none : length s ≡ 0 → decode s ≡ refuse 4
+  unfolding decode
+  decode-none h = rw h
+
+  pub decode-over : message-limit < length s → decode s ≡ refuse 4
+  unfolding decode
+  decode-over h = simp (lt-ltb 0 (length s) (omega arith), lt-leb (length s) message-limit h)
+
+  module _ (some : length s ≡ 0 → ⊥) (most : length s ≤ message-limit) (g : Got) (t : TakesField s 0 kind g) where
+    first : takeField kind 0 0 s ≡ atBit s g
+    unfolding leftAt bitsAt behind
+    first = subst (λ k. takeField kind 0 k s ≡ atBit s g) (mod-one (getD s 0 0)) (sym (t .same))
+
+    by-number : decode s ≡ ofNumber (atBit s g)
+    unfolding decode ofNumber
+    by-number = simp (lt-ltb 0 (length s) (omega arith), le-leb (length s) message-limit most) (ap ofNumber first)
+
+    pub decode-no : (k : ℕ) → g ≡ No k → decode s ≡ refuse k
+    unfolding ofNumber
+    decode-no k e = by-number ∙ ap (λ q. ofNumber (atBit s q)) e
+
+    module _ (v at : ℕ) (e : g ≡ Value v at) where
+      pub number-left : leftAt at ≡ 2
+      unfolding leftAt
+      number-left = let b : TakesField s 0 kind (Value v at) = rw e at t in b .leaves
+
+      pub decode-is : decode s ≡ rowAt s at v
+      unfolding ofNumber rowAt
+      decode-is = by-number ∙ ap (λ q. ofNumber (atBit s q)) e

@@ -1,0 +1,67 @@
+-- What the functions of src/ answer, as what the readers of Octets and Codec give at a place in a message's octets.
+use mathlib.Core.Path.{_≡_}
+use mathlib.Core.Bool.{Bool, true, false}
+use mathlib.Core.List.{List, [], _∷_, _++_}
+use Prim.Native.Nat.{ℕ, _+_, _-_, _*_, _/_, _%_, _^_, _≤_, _<_}
+use lib.Dec.{leb}
+use lib.ListN.{length, getD, take, drop}
+use Rattle.octets.specs.Octets.{Read, got, no, Reader, follow, give, need, readItems, Tail, nothing, list}
+use Rattle.messages.specs.Messages.{Field, row}
+use Rattle.messages.specs.Codec.{leftAfter, takeField, takeFields, takeBody, takeRow, Msg, Outcome, ok, refuse, ending, decode}
+use Rattle.reader.specs.declared.Fields.{Fields}
+use Rattle.reader.specs.declared.Items.{Items}
+use Rattle.reader.specs.declared.Decoded.{Decoded}
+use Rattle.octets.specs.declared.Got.{Got}
+use Rattle.octets.specs.declared.Got.the-variants.{Value, No}
+use Rattle.octets.specs.Places.{leftAt, bitsAt, behind, Bitwise}
+use Rattle.messages.specs.Columns.{tailAt, fieldsOf, tailOf}
+
+-- a field of a kind, taken at a bit
+abbrev pub TakesField : List ℕ → ℕ → Field → Got → Type 0
+TakesField s at f r = Bitwise s (leftAfter f (leftAt at)) r (takeField f (leftAt at) (bitsAt s at) (behind s at))
+
+abbrev pub atFields : List ℕ → ℕ → Fields → Bool → Read (List ℕ × ℕ)
+atFields s count r true = got (take count (r .values), bitsAt s (r .at)) (behind s (r .at))
+atFields s count r false = no (r .refusal)
+
+pub record TakesFields (s : List ℕ) (from : ℕ) (fs : List Field) (count : ℕ) (r : Fields) : Type 0 where
+  pub same : atFields s count r (r .ok) ≡ takeFields fs (leftAt from) (bitsAt s from) (behind s from)
+  pub inside : r .at ≤ length s * 8
+
+-- a list behind its length, and the same by kind
+abbrev pub restOf : Tail → ℕ → Reader (List ℕ)
+restOf nothing n = give []
+restOf (list i limit) n = need (leb n limit) 8 (readItems i n)
+
+unfoldable pub listed : ℕ → ℕ → Reader (List ℕ)
+listed kind n = restOf (tailOf kind) n
+
+abbrev pub itemsOf : List ℕ → Bool → ℕ → ℕ → List ℕ → List ℕ
+itemsOf s true start count ids = take count (drop start s)
+itemsOf s false start count ids = take count ids
+
+abbrev pub atItems : List ℕ → Items → Bool → Read (List ℕ)
+atItems s r true = got (itemsOf s (r .octets) (r .start) (r .count) (r .ids)) (drop (r .next) s)
+atItems s r false = no (r .refusal)
+
+pub record ReadsItems (s : List ℕ) (r : Items) (spec : Read (List ℕ)) : Type 0 where
+  pub same : atItems s r (r .ok) ≡ spec
+  pub inside : r .next ≤ length s
+
+-- a message, as src/ holds it
+abbrev pub viewed : List ℕ → Decoded → Bool → Outcome Msg
+viewed s r true = ok (record { number = r .number; values = take (r .have) (r .values); items = itemsOf s (r .octets) (r .start) (r .count) (r .ids) })
+viewed s r false = refuse (r .refusal)
+
+abbrev pub message : ℕ → List ℕ × List ℕ → Reader Msg
+message n r = give (record { number = n; values = r .0; items = r .1 })
+
+unfoldable pub bodyAt : List ℕ → ℕ → ℕ → ℕ → Outcome Msg
+bodyAt s at count number =
+    ending (follow (takeBody (fieldsOf number count) (tailOf (tailAt number)) (leftAt at) (bitsAt s at) (behind s at)) (message number))
+
+unfoldable pub rowAt : List ℕ → ℕ → ℕ → Outcome Msg
+rowAt s at number = ending (follow (takeRow (row number) (bitsAt s at) (behind s at)) (message number))
+
+abbrev pub decodeOf : List ℕ → Outcome Msg
+decodeOf s = decode s

@@ -1,0 +1,510 @@
+// The reader: the message of some octets, or a refusal. And a reader that remembers the message and the bit that it has reached.
+use messages::LIST_LIMIT;
+use messages::MESSAGE_LIMIT;
+use messages::STRING_LIMIT;
+use messages::count_of;
+use messages::form_of;
+use messages::kind_of;
+use messages::tail_of;
+use octets::Got;
+use octets::left_at;
+use octets::read_id;
+use octets::read_length;
+use octets::read_number;
+use octets::wide;
+ghost use mathlib.Core.Path.{_≡_};
+ghost use Prim.Native.Nat.{_+_, _*_, _-_, _<_, _≤_};
+ghost use mathlib.Core.Bool.{true, false};
+ghost use lib.ListN.{length, drop};
+ghost use Rattle.octets.specs.Octets.{anId, aNumber, anOctet, readItems, readTail};
+ghost use Rattle.messages.specs.Limits.{list-limit, message-limit};
+ghost use Rattle.messages.specs.Messages.{code, item};
+ghost use Rattle.messages.specs.Columns.{fieldOf, fieldsOf, tailOf};
+ghost use Rattle.octets.specs.Bits.{takeBits, after};
+ghost use Rattle.octets.specs.Places.{leftAt, bitsAt, behind, Bitwise, cappedOf, inBits, EndsAt};
+ghost use Rattle.reader.specs.Reading.{TakesField, TakesFields, ReadsItems, listed, viewed, bodyAt, rowAt, decodeOf};
+ghost use Rattle.reader.specs.Stepping.{FieldAt, Steps};
+
+// The value of the bits left of an octet begun, at a bit.
+fn bits_at(s: &[u8], at: usize) -> u32
+    requires { ⌜ at ≤ length (now s) * 8 ⌝ }
+    ensures { λ r. ⌜ (r ≡ bitsAt (now (s .entry)) at) × (r < 256) ⌝ }
+{
+    let left = left_at(at);
+    if left == 0 {
+        return 0;
+    }
+    let i = at / 8;
+    wide(s[i]) % (1u32 << left)
+}
+
+// A code of some bits at a bit.
+fn take_bits(s: &[u8], at: usize, width: u32) -> Got
+    requires { ⌜ (at ≤ length (now s) * 8) × (length (now s) ≤ message-limit) × (width ≤ 8) ⌝ }
+    ensures { λ r. ⌜ Bitwise (now (s .entry)) (after width (leftAt at)) r (takeBits width (leftAt at) (bitsAt (now (s .entry)) at) (behind (now (s .entry)) at)) ⌝ }
+{
+    let left = left_at(at);
+    let bits = bits_at(s, at);
+    let next = at + width as usize;
+    if width <= left {
+        return Got::Value(bits >> (left - width), next);
+    }
+    let i = (at + 7) / 8;
+    if s.len() <= i {
+        return Got::No(5);
+    }
+    let n = bits * 256 + wide(s[i]);
+    Got::Value(n >> (left + 8 - width), next)
+}
+
+// A value up to its largest; a place counted in bits.
+fn capped(g: Got, most: u32) -> Got
+    ensures { λ r. ⌜ r ≡ cappedOf most g ⌝ }
+{
+    match g {
+        Got::No(n) => Got::No(n),
+        Got::Value(v, next) => {
+            if v <= most {
+                Got::Value(v, next)
+            } else {
+                Got::No(5)
+            }
+        }
+    }
+}
+
+fn in_bits(g: Got) -> Got
+    requires { ⌜ EndsAt message-limit g ⌝ }
+    ensures { λ r. ⌜ r ≡ inBits g ⌝ }
+{
+    match g {
+        Got::No(n) => Got::No(n),
+        Got::Value(v, next) => Got::Value(v, next * 8),
+    }
+}
+
+// A code of some bits, up to its largest value.
+fn take_code(s: &[u8], at: usize, width: u32, most: u32) -> Got
+    requires { ⌜ (at ≤ length (now s) * 8) × (length (now s) ≤ message-limit) × (width ≤ 8) ⌝ }
+    ensures { λ r. ⌜ TakesField (now (s .entry)) at (code width most) r ⌝ }
+{
+    capped(take_bits(s, at, width), most)
+}
+
+// An id, on the next octet.
+fn take_id(s: &[u8], at: usize, low: u16) -> Got
+    requires { ⌜ (at ≤ length (now s) * 8) × (length (now s) ≤ message-limit) ⌝ }
+    ensures { λ r. ⌜ TakesField (now (s .entry)) at (item (anId low)) r ⌝ }
+{
+    if bits_at(s, at) != 0 {
+        return Got::No(5);
+    }
+    let i = (at + 7) / 8;
+    in_bits(read_id(s, i, low))
+}
+
+// An integer from 0 up, on the next octet.
+fn take_number(s: &[u8], at: usize) -> Got
+    requires { ⌜ (at ≤ length (now s) * 8) × (length (now s) ≤ message-limit) ⌝ }
+    ensures { λ r. ⌜ TakesField (now (s .entry)) at (item aNumber) r ⌝ }
+{
+    if bits_at(s, at) != 0 {
+        return Got::No(5);
+    }
+    let i = (at + 7) / 8;
+    in_bits(read_number(s, i))
+}
+
+// A field of a kind of the table of messages.
+fn take_field(s: &[u8], at: usize, kind: u8) -> Got
+    requires { ⌜ (at ≤ length (now s) * 8) × (length (now s) ≤ message-limit) ⌝ }
+    ensures { λ r. ⌜ TakesField (now (s .entry)) at (fieldOf kind) r ⌝ }
+{
+    match kind {
+        0 => take_code(s, at, 4, 15),
+        1 => take_code(s, at, 4, 13),
+        2 => take_code(s, at, 3, 4),
+        3 => take_code(s, at, 3, 7),
+        4 => take_id(s, at, 0),
+        5 => take_id(s, at, 1001),
+        6 => take_id(s, at, 1),
+        _ => take_number(s, at),
+    }
+}
+
+// The fields read: whether all are, else the refusal; the bit behind them; their values.
+pub struct Fields {
+    pub ok: bool,
+    pub refusal: u8,
+    pub at: usize,
+    pub values: [u32; 4],
+}
+
+// The first fields of a message.
+fn take_fields(s: &[u8], from: usize, number: u32, count: usize) -> Fields
+    requires { ⌜ (from ≤ length (now s) * 8) × (length (now s) ≤ message-limit) × (count ≤ 4) ⌝ }
+    ensures { λ r. ⌜ TakesFields (now (s .entry)) from (fieldsOf number count) count r ⌝ }
+{
+    let mut values = [0u32; 4];
+    let mut at = from;
+    let mut i = 0;
+    while i < count {
+        let kind = kind_of(number, i);
+        let g = take_field(s, at, kind);
+        match g {
+            Got::No(n) => {
+                return Fields {
+                    ok: false,
+                    refusal: n,
+                    at: at,
+                    values: values,
+                };
+            }
+            Got::Value(v, next) => {
+                values[i] = v;
+                at = next;
+                i += 1;
+            }
+        }
+    }
+    Fields {
+        ok: true,
+        refusal: 0,
+        at: at,
+        values: values,
+    }
+}
+
+// What follows the fields: whether it is read, else the refusal; the octet behind it; ids, or octets from start on.
+pub struct Items {
+    pub ok: bool,
+    pub refusal: u8,
+    pub next: usize,
+    pub count: usize,
+    pub octets: bool,
+    pub start: usize,
+    pub ids: [u16; LIST_LIMIT],
+}
+
+fn no_items(n: u8) -> Items
+    ensures { λ r. ⌜ (r .ok ≡ false) × (r .refusal ≡ n) × (r .next ≡ 0) ⌝ }
+{
+    let ids = [0u16; LIST_LIMIT];
+    Items {
+        ok: false,
+        refusal: n,
+        next: 0,
+        count: 0,
+        octets: false,
+        start: 0,
+        ids: ids,
+    }
+}
+
+// Some ids.
+fn read_ids(s: &[u8], from: usize, low: u16, count: usize) -> Items
+    requires { ⌜ (from ≤ length (now s)) × (count ≤ list-limit) ⌝ }
+    ensures { λ r. ⌜ ReadsItems (now (s .entry)) r (readItems (anId low) count (drop from (now (s .entry)))) ⌝ }
+{
+    let mut ids = [0u16; LIST_LIMIT];
+    let mut at = from;
+    let mut i = 0;
+    while i < count {
+        let g = read_id(s, at, low);
+        match g {
+            Got::No(n) => return no_items(n),
+            Got::Value(v, next) => {
+                ids[i] = (v % 65536) as u16;
+                at = next;
+                i += 1;
+            }
+        }
+    }
+    Items {
+        ok: true,
+        refusal: 0,
+        next: at,
+        count: count,
+        octets: false,
+        start: 0,
+        ids: ids,
+    }
+}
+
+// Some octets, where they stand.
+fn read_octets(s: &[u8], from: usize, count: usize) -> Items
+    requires { ⌜ (from ≤ length (now s)) × (count < 65536) × (length (now s) ≤ message-limit) ⌝ }
+    ensures { λ r. ⌜ ReadsItems (now (s .entry)) r (readItems anOctet count (drop from (now (s .entry)))) ⌝ }
+{
+    if s.len() < from + count {
+        return no_items(5);
+    }
+    let ids = [0u16; LIST_LIMIT];
+    Items {
+        ok: true,
+        refusal: 0,
+        next: from + count,
+        count: count,
+        octets: true,
+        start: from,
+        ids: ids,
+    }
+}
+
+// A list's items, of a kind of the table of messages, behind its length.
+fn read_list(s: &[u8], from: usize, kind: u8, n: u32) -> Items
+    requires { ⌜ (from ≤ length (now s)) × (length (now s) ≤ message-limit) × (kind ≡ 0 → ⊥) ⌝ }
+    ensures { λ r. ⌜ ReadsItems (now (s .entry)) r (listed kind n (drop from (now (s .entry)))) ⌝ }
+{
+    if kind == 3 {
+        if STRING_LIMIT < n as usize {
+            return no_items(8);
+        }
+        return read_octets(s, from, n as usize);
+    }
+    if LIST_LIMIT < n as usize {
+        return no_items(8);
+    }
+    if kind == 1 {
+        read_ids(s, from, 0, n as usize)
+    } else {
+        read_ids(s, from, 1001, n as usize)
+    }
+}
+
+fn read_tail(s: &[u8], from: usize, kind: u8) -> Items
+    requires { ⌜ (from ≤ length (now s)) × (length (now s) ≤ message-limit) ⌝ }
+    ensures { λ r. ⌜ ReadsItems (now (s .entry)) r (readTail (tailOf kind) (drop from (now (s .entry)))) ⌝ }
+{
+    if kind == 0 {
+        let ids = [0u16; LIST_LIMIT];
+        return Items {
+            ok: true,
+            refusal: 0,
+            next: from,
+            count: 0,
+            octets: false,
+            start: 0,
+            ids: ids,
+        };
+    }
+    let g = read_length(s, from);
+    match g {
+        Got::No(n) => no_items(n),
+        Got::Value(n, at) => read_list(s, at, kind, n),
+    }
+}
+
+// A message, or a refusal. Its items are ids, or the octets from start on.
+pub struct Decoded {
+    pub ok: bool,
+    pub refusal: u8,
+    pub number: u32,
+    pub have: usize,
+    pub values: [u32; 4],
+    pub count: usize,
+    pub octets: bool,
+    pub start: usize,
+    pub ids: [u16; LIST_LIMIT],
+}
+
+fn refused(n: u8) -> Decoded
+    ensures { λ r. ⌜ (r .ok ≡ false) × (r .refusal ≡ n) ⌝ }
+{
+    let values = [0u32; 4];
+    let ids = [0u16; LIST_LIMIT];
+    Decoded {
+        ok: false,
+        refusal: n,
+        number: 0,
+        have: 0,
+        values: values,
+        count: 0,
+        octets: false,
+        start: 0,
+        ids: ids,
+    }
+}
+
+// The fields of a message, from the bit at on, and what follows them, to its end.
+fn decode_body(s: &[u8], at: usize, count: usize, number: u32) -> Decoded
+    requires { ⌜ (at ≤ length (now s) * 8) × (length (now s) ≤ message-limit) × (count ≤ 4) ⌝ }
+    ensures { λ r. ⌜ viewed (now (s .entry)) r (r .ok) ≡ bodyAt (now (s .entry)) at count number ⌝ }
+{
+    let f = take_fields(s, at, number, count);
+    if !f.ok {
+        return refused(f.refusal);
+    }
+    let end = f.at;
+    if bits_at(s, end) != 0 {
+        return refused(5);
+    }
+    let i = (end + 7) / 8;
+    let kind = tail_of(number);
+    let t = read_tail(s, i, kind);
+    if !t.ok {
+        return refused(t.refusal);
+    }
+    if t.next != s.len() {
+        return refused(5);
+    }
+    let values = f.values;
+    let ids = t.ids;
+    Decoded {
+        ok: true,
+        refusal: 0,
+        number: number,
+        have: count,
+        values: values,
+        count: t.count,
+        octets: t.octets,
+        start: t.start,
+        ids: ids,
+    }
+}
+
+// A message, by its number.
+fn decode_row(s: &[u8], at: usize, number: u32) -> Decoded
+    requires { ⌜ (at ≤ length (now s) * 8) × (length (now s) ≤ message-limit) × (leftAt at ≡ 2) ⌝ }
+    ensures { λ r. ⌜ viewed (now (s .entry)) r (r .ok) ≡ rowAt (now (s .entry)) at number ⌝ }
+{
+    let form = form_of(number);
+    if 2 < form {
+        return refused(5);
+    }
+    if form == 2 {
+        return refused(7);
+    }
+    let count = count_of(number);
+    if form == 0 {
+        return decode_body(s, at, count, number);
+    }
+    let g = take_code(s, at, 1, 1);
+    match g {
+        Got::No(n) => refused(n),
+        Got::Value(v, next) => {
+            if v == 1 {
+                decode_body(s, next, count + 1, number)
+            } else {
+                decode_body(s, next, count, number)
+            }
+        }
+    }
+}
+
+// The message of these octets.
+pub fn decode(s: &[u8]) -> Decoded
+    ensures { λ r. ⌜ viewed (now (s .entry)) r (r .ok) ≡ decodeOf (now (s .entry)) ⌝ }
+{
+    if s.len() == 0 {
+        return refused(4);
+    }
+    if MESSAGE_LIMIT < s.len() {
+        return refused(4);
+    }
+    let g = take_code(s, 0, 6, 63);
+    match g {
+        Got::No(n) => refused(n),
+        Got::Value(v, at) => decode_row(s, at, v),
+    }
+}
+
+// A field of a kind of the table of messages at a bit, of any octets: 4 above 1,024 of them, 5 behind their end.
+fn field_at(s: &[u8], at: usize, kind: u8) -> Got
+    ensures { λ r. ⌜ FieldAt (now (s .entry)) at (fieldOf kind) r ⌝ }
+{
+    if MESSAGE_LIMIT < s.len() {
+        return Got::No(4);
+    }
+    if s.len() * 8 < at {
+        return Got::No(5);
+    }
+    take_field(s, at, kind)
+}
+
+// The octets that no bit before this one is in.
+fn left_behind(s: &[u8], at: usize) -> usize
+    ensures { λ r. ⌜ r ≡ length (behind (now (s .entry)) at) ⌝ }
+{
+    let n = at / 8;
+    if s.len() <= n {
+        return 0;
+    }
+    if at % 8 == 0 {
+        s.len() - n
+    } else {
+        s.len() - n - 1
+    }
+}
+
+// A reader remembers the message and the bit that it has reached. It is made at the first bit; it reads a field there; it moves on; it says
+// how many whole octets are left.
+pub struct Reader<'a> {
+    pub octets: &'a [u8],
+    pub bit: usize,
+}
+
+pub fn start<'a>(octets: &'a [u8]) -> Reader<'a>
+    ensures { λ r. ⌜ (r .octets ≡ octets .entry) × (r .bit ≡ 0) ⌝ }
+{
+    Reader { octets, bit: 0 }
+}
+
+pub fn field<'a>(r: Reader<'a>, kind: u8) -> Got
+    ensures { λ g. ⌜ FieldAt (now (r .entry .octets)) (r .entry .bit) (fieldOf kind) g ⌝ }
+{
+    field_at(r.octets, r.bit, kind)
+}
+
+pub fn moved<'a>(r: Reader<'a>, bit: usize) -> Reader<'a>
+    ensures { λ q. ⌜ (q .octets ≡ r .entry .octets) × (q .bit ≡ bit) ⌝ }
+{
+    Reader {
+        octets: r.octets,
+        bit,
+    }
+}
+
+pub fn octets_left<'a>(r: Reader<'a>) -> usize
+    ensures { λ n. ⌜ n ≡ length (behind (now (r .entry .octets)) (r .entry .bit)) ⌝ }
+{
+    left_behind(r.octets, r.bit)
+}
+
+// What is read at a bit, and the bit then reached: behind the field, or the same where it is refused.
+pub struct Step {
+    pub got: Got,
+    pub bit: usize,
+}
+
+fn step_at(s: &[u8], at: usize, kind: u8) -> Step
+    ensures { λ r. ⌜ Steps (now (s .entry)) at (fieldOf kind) r ⌝ }
+{
+    let g = field_at(s, at, kind);
+    match g {
+        Got::No(n) => Step {
+            got: Got::No(n),
+            bit: at,
+        },
+        Got::Value(v, next) => Step {
+            got: Got::Value(v, next),
+            bit: next,
+        },
+    }
+}
+
+// A field is read at the bit reached, and the reader moves on.
+pub fn advance<'s, 'a>(r: &'s mut Reader<'a>, kind: u8) -> Step
+    ensures { λ t. ⌜ Steps (now (now (r .entry) .octets)) (now (r .entry) .bit) (fieldOf kind) t × (now (r .exit) .octets ≡ now (r .entry) .octets) × (now (r .exit) .bit ≡ t .bit) ⌝ }
+{
+    let t = step_at(r.octets, r.bit, kind);
+    r.bit = t.bit;
+    t
+}
+
+// A field at a bit of a message, by way of a reader.
+pub fn field_of(s: &[u8], bit: usize, kind: u8) -> Got
+    ensures { λ g. ⌜ FieldAt (now (s .entry)) bit (fieldOf kind) g ⌝ }
+{
+    field(moved(start(s), bit), kind)
+}

@@ -1,0 +1,5 @@
+pub mod PutLaws
+pub mod LayLaws
+pub mod FieldLaws
+pub mod TailLaws
+pub mod MessageLaws

@@ -1,0 +1,190 @@
+-- What follows the fields, measured and written: `tail_size` and `put_tail`, by the same loops for every kind of list. Assumes nothing.
+use mathlib.Core.Path.{_≡_, refl, sym, ap, _∙_}
+use mathlib.Core.Bool.{Bool, true, false, _&&_, not}
+use mathlib.Core.List.{List, [], _∷_, _++_, append-assoc, append-nil}
+use Prim.Native.Nat.{ℕ, zero, suc, _+_, _-_, _*_, _/_, _%_, _^_, _<_, _≤_}
+use native.Mathlib.Numerals.{add-one}
+use native.Mathlib.Nat.{zero-mul, mul-le-mul-left}
+use native.Mathlib.Omega.{arith}
+use lib.ListN.{length, getD, take, drop, drop-of-length-le, length-append}
+use lib.Seq.{drop-cons, take-all}
+use lib.Dec.{leb, eqb}
+use borrow.Author.Tests.{eq-eqb, ne-eqb, le-leb, lt-leb, leb-true}
+use Rattle.octets.specs.Octets.{lengthOctets, fitsItem, writeItem, fitsItems, writeItems, nothing, list, fitsTail, writeTail}
+use Rattle.octets.proofs.OctetLaws.{both-left, both-right}
+use Rattle.messages.specs.Columns.{tailOf}
+use Rattle.writer.specs.Writing.{Lays, tailUpto, itemOf, limitOf, widthOf}
+use Rattle.writer.specs.declared.Wrote.{Wrote}
+use Rattle.writer.specs.declared.Wrote.the-variants.{Upto, Not}
+
+pub tail-none : (k : ℕ) → k ≡ 0 → tailOf k ≡ nothing
+unfolding tailOf
+tail-none k e = rw (eq-eqb k 0 e)
+
+pub tail-list : (k : ℕ) → (k ≡ 0 → ⊥) → tailOf k ≡ list (itemOf k) (limitOf k)
+unfolding tailOf itemOf limitOf
+tail-list k n = go (eqb k 3) (eqb k 1) refl refl
+  where
+    go : (a b : Bool) → eqb k 3 ≡ a → eqb k 1 ≡ b → tailOf k ≡ list (itemOf k) (limitOf k)
+    go true b p q = simp (ne-eqb k 0 n, p)
+    go false true p q = simp (ne-eqb k 0 n, p, q)
+    go false false p q = simp (ne-eqb k 0 n, p, q)
+
+pub item-width : (k v : ℕ) → length (writeItem (itemOf k) v) ≡ widthOf k
+unfolding itemOf widthOf
+item-width k v = go (eqb k 3) (eqb k 1) refl refl
+  where
+    go : (a b : Bool) → eqb k 3 ≡ a → eqb k 1 ≡ b → length (writeItem (itemOf k) v) ≡ widthOf k
+    go true b p q = simp p
+    go false true p q = simp (p, q)
+    go false false p q = simp (p, q)
+
+items-width : (k : ℕ) (vs : List ℕ) → length (writeItems (itemOf k) vs) ≡ length vs * widthOf k
+items-width k [] = sym (zero-mul (widthOf k))
+items-width k (v ∷ vs) =
+    length-append (writeItem (itemOf k) v) (writeItems (itemOf k) vs) ∙ rw (item-width k v, items-width k vs) (omega (arith, suc-times (length vs) (widthOf k)))
+  where
+    suc-times : (a b : ℕ) → suc a * b ≡ b + a * b
+    suc-times a b = omega arith
+
+is-false : (t : Bool) → not t ≡ true → t ≡ false
+is-false false e = refl
+is-false true e = sym e
+
+is-true : (t : Bool) → not t ≡ false → t ≡ true
+is-true true e = refl
+is-true false e = sym e
+
+no-both : (a : Bool) → a && false ≡ false
+no-both true = refl
+no-both false = refl
+
+module _ (k : ℕ) (items : List ℕ) where
+  pub size-none : (n : ℕ) → n ≡ length items → k ≡ 0 → n ≡ 0 → (Upto 0 ≡ tailUpto (tailOf k) items) × (0 ≤ 40000)
+  unfolding tailUpto
+  size-none n e z h = (rw (tail-none k z, eq-eqb (length items) 0 (sym e ∙ h)), omega arith)
+
+  pub size-some : (n : ℕ) → n ≡ length items → k ≡ 0 → (n ≡ 0 → ⊥) → (Not 8 ≡ tailUpto (tailOf k) items) × Unit {0}
+  unfolding tailUpto
+  size-some n e z h = (rw (tail-none k z, ne-eqb (length items) 0 (rw e at h)), tt)
+
+  module _ (nz : k ≡ 0 → ⊥) where
+    pub size-over : (n limit : ℕ) → n ≡ length items → limit ≡ limitOf k → limit < n → (Not 8 ≡ tailUpto (tailOf k) items) × Unit {0}
+    unfolding tailUpto
+    size-over n limit e f h = (rw (tail-list k nz, lt-leb (length items) (limitOf k) (omega arith)), tt)
+
+-- i of the items are looked at
+pub record Checking (k : ℕ) (items : List ℕ) (n i : ℕ) : Type 0 where
+  pub all : n ≡ length items
+  pub within : i ≤ n
+  pub few : n ≤ limitOf k
+  pub some : k ≡ 0 → ⊥
+  pub same : fitsItems (itemOf k) items ≡ fitsItems (itemOf k) (drop i items)
+
+pub checking-none : (k : ℕ) (items : List ℕ) (n limit : ℕ) → n ≡ length items → limit ≡ limitOf k → n ≤ limit → (k ≡ 0 → ⊥) → Checking k items n 0
+checking-none k items n limit e f h z = record { all = e; within = omega arith; few = omega arith; some = z; same = refl }
+
+module _ {k : ℕ} {items : List ℕ} {n i : ℕ} (o : Checking k items n i) where
+  pub checking-at : i < n → i < length items
+  checking-at h = omega (arith, o .all)
+
+  next : i < n → (v : ℕ) → v ≡ getD items i 0 → fitsItems (itemOf k) items ≡ fitsItem (itemOf k) v && fitsItems (itemOf k) (drop (suc i) items)
+  next h v e = o .same ∙ ap (λ l. fitsItems (itemOf k) l) (drop-cons items i 0 (checking-at h)) ∙ rw e
+
+  pub checking-bad : i < n → (v : ℕ) → v ≡ getD items i 0 → (t : Bool) → t ≡ fitsItem (itemOf k) v → not t ≡ true → (Not 8 ≡ tailUpto (tailOf k) items) × Unit {0}
+  unfolding tailUpto
+  checking-bad h v e t f g = (rw (tail-list k (o .some), next h v e, ← f, is-false t g, no-both (leb (length items) (limitOf k))), tt)
+
+  pub checking-more : i < n → (v : ℕ) → v ≡ getD items i 0 → (t : Bool) → t ≡ fitsItem (itemOf k) v → not t ≡ false → Checking k items n (i + 1)
+  checking-more h v e t f g =
+      record { all = o .all; within = omega arith; few = o .few; some = o .some; same = rw add-one (next h v e ∙ rw (← f, is-true t g)) }
+
+  pub checking-all : n ≤ i → (l w : ℕ) → (l ≡ length (lengthOctets n)) × (l ≤ 2) → (w ≡ widthOf k) × (w ≤ 2) → n < 16384 → (Upto (l + n * w) ≡ tailUpto (tailOf k) items) × (l + n * w ≤ 40000)
+  unfolding tailUpto
+  checking-all h l w p q m =
+      let fits : fitsItems (itemOf k) items ≡ true = o .same ∙ rw (drop-of-length-le items {i = i} (omega (arith, o .all))) in (
+        rw (tail-list k (o .some), le-leb (length items) (limitOf k) (omega (arith, o .all, o .few)), fits, length-append (lengthOctets (length items)) (writeItems (itemOf k) items), items-width k items, p .0, q .0, o .all),
+        twice n w l (q .1) (p .1) m,
+      )
+    where
+      twice : (n w l : ℕ) → w ≤ 2 → l ≤ 2 → n < 16384 → l + n * w ≤ 40000
+      twice n w l a b c = omega (arith, mul-le-mul-left n a)
+
+-- i of the items are written, since s₀ and the place at₀
+pub record Listing (s₀ : List ℕ) (at₀ k : ℕ) (items s : List ℕ) (at i : ℕ) : Type 0 where
+  pub within : i ≤ length items
+  pub fits : fitsItems (itemOf k) (drop i items) ≡ true
+  pub same : take at s ++ writeItems (itemOf k) (drop i items) ≡ take at₀ s₀ ++ writeItems (itemOf k) items
+  pub room : at + length (writeItems (itemOf k) (drop i items)) ≡ length s
+  pub size : length s ≡ length s₀
+
+limit-small : (k : ℕ) → limitOf k < 16384
+unfolding limitOf
+limit-small k = go (eqb k 3) refl
+  where
+    go : (t : Bool) → eqb k 3 ≡ t → limitOf k < 16384
+    go true e = rw e (omega arith)
+    go false e = rw e (omega arith)
+
+module _ (s₀ : List ℕ) (from k : ℕ) (items : List ℕ) (f : fitsTail (tailOf k) items ≡ true) (r : from + length (writeTail (tailOf k) items) ≡ length s₀) where
+  pub listing-nothing : k ≡ 0 → s₀ ≡ take from s₀ ++ writeTail (tailOf k) items
+  listing-nothing z =
+      let e : from + 0 ≡ length s₀ = rw (tail-none k z) at r in
+      rw (tail-none k z, append-nil, take-all from s₀ (omega arith))
+
+  module _ (nz : k ≡ 0 → ⊥) (n : ℕ) (c : n ≡ length items) where
+    is-list : writeTail (tailOf k) items ≡ lengthOctets n ++ writeItems (itemOf k) items
+    is-list = rw (tail-list k nz, c)
+
+    fits-list : leb (length items) (limitOf k) && fitsItems (itemOf k) items ≡ true
+    fits-list = rw (tail-list k nz) at f
+
+    pub listing-room : (from + length (lengthOctets n) ≤ length s₀) × (n < 16384)
+    listing-room = (
+      omega (arith, r, ap length is-list, length-append (lengthOctets n) (writeItems (itemOf k) items)),
+      omega (arith, limit-small k, leb-true (length items) (limitOf k) (both-left (leb (length items) (limitOf k)) (fitsItems (itemOf k) items) fits-list)),
+    )
+
+    module _ {s : List ℕ} {at : ℕ} (l : Lays s₀ from (lengthOctets n) s at) where
+      pub listing-start : Listing s at k items s at 0
+      listing-start =
+          record {
+            within = omega arith;
+            fits = both-right (leb (length items) (limitOf k)) (fitsItems (itemOf k) items) fits-list;
+            same = refl;
+            room = omega (arith, l .ends, l .size, r, ap length is-list, length-append (lengthOctets n) (writeItems (itemOf k) items));
+            size = refl;
+          }
+
+      pub listing-whole : {s1 : List ℕ} → s1 ≡ take at s ++ writeItems (itemOf k) items → s1 ≡ take from s₀ ++ writeTail (tailOf k) items
+      listing-whole e = e ∙ rw (l .lays, append-assoc, is-list)
+
+module _ {s₀ : List ℕ} {at₀ k : ℕ} {items s : List ℕ} {at i : ℕ} (o : Listing s₀ at₀ k items s at i) where
+  module _ (h : i < length items) (v : ℕ) (e : v ≡ getD items i 0) where
+    split : drop i items ≡ v ∷ drop (suc i) items
+    split = rw e (drop-cons items i 0 h)
+
+    pub listing-fits : fitsItem (itemOf k) v ≡ true
+    listing-fits = both-left (fitsItem (itemOf k) v) (fitsItems (itemOf k) (drop (suc i) items)) (rw split at (o .fits))
+
+    rest-room : at + (length (writeItem (itemOf k) v) + length (writeItems (itemOf k) (drop (suc i) items))) ≡ length s
+    rest-room = rw (← length-append (writeItem (itemOf k) v) (writeItems (itemOf k) (drop (suc i) items))) (rw split at (o .room))
+
+    pub listing-next : at + length (writeItem (itemOf k) v) ≤ length s
+    listing-next = omega (arith, rest-room)
+
+    pub listing-more : {s′ : List ℕ} {next : ℕ} → Lays s at (writeItem (itemOf k) v) s′ next → Listing s₀ at₀ k items s′ next (i + 1)
+    listing-more l =
+        record {
+          within = omega arith;
+          fits = rw add-one (both-right (fitsItem (itemOf k) v) (fitsItems (itemOf k) (drop (suc i) items)) (rw split at (o .fits)));
+          same = rw (add-one, l .lays, append-assoc) (rw split at (o .same));
+          room = rw add-one (omega (arith, l .ends, l .size, rest-room));
+          size = l .size ∙ o .size;
+        }
+
+  pub listing-all : length items ≤ i → s ≡ take at₀ s₀ ++ writeItems (itemOf k) items
+  listing-all h =
+      let z : drop i items ≡ [] = drop-of-length-le items {i = i} h in
+      let e : at + 0 ≡ length s = rw z at (o .room) in
+      sym (take-all at s (omega arith)) ∙ sym (append-nil (take at s)) ∙ rw z at (o .same)
