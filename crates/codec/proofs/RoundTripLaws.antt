@@ -10,12 +10,12 @@ use lib.Dec.{leb}
 use borrow.Author.Tests.{leb-true, le-leb}
 use Rattle.messages.specs.Codec.{Msg, Outcome, ok, refuse, decode, encode}
 use Rattle.messages.proofs.Theorems.{written-is-read}
-use Rattle.reader.specs.Reading.{viewed}
+use Rattle.reader.specs.Held.{noMessage, decoded}
 use Rattle.writer.specs.Writing.{pickRoom, filled, Encodes}
 use Rattle.reader.specs.declared.Decoded.{Decoded}
 use Rattle.writer.specs.declared.Wrote.{Wrote}
 use Rattle.writer.specs.declared.Wrote.the-variants.{Upto, Not}
-use Rattle.codec.specs.RoundTrip.{backBy, octetsBy, ReadBack}
+use Rattle.codec.specs.RoundTrip.{backBy, back, octetsBy, ReadBack}
 
 apart : {n k : ℕ} → Upto n ≡ Not k → ⊥
 apart e = let z : _≡_ {A = ℕ} 0 1 = cc in omega arith
@@ -50,18 +50,20 @@ module _ (m : Msg) (s s′ : List ℕ) (n : ℕ) where
   written-back e = written-is-read m (take n s′) (written (encode m) s s′ n e .0)
 
   -- what is written is read, by any reader that keeps the reader's promise
-  pub round-trip : Encodes m s (Upto n) s′ → (d : Decoded) → viewed (take n s′) d (d .ok) ≡ decode (take n s′) → ReadBack m s d s′
+  pub round-trip : Encodes m s (Upto n) s′ → (d : Decoded) → d ≡ decoded (take n s′) (decode (take n s′)) → ReadBack m s d s′
   round-trip e d f =
       let w = written (encode m) s s′ n e in
       record {
         same =
-            ap (λ o. viewed (octetsBy o) d (d .ok)) (w .0) ∙ f ∙ written-back e
-            ∙ sym (ap (λ o. backBy o m (length s)) (w .0) ∙ ap (λ t. cond t (ok m) (refuse 9)) (le-leb (length (take n s′)) (length s) (w .2)));
+            f ∙ ap (λ o. decoded (take n s′) o) (written-back e)
+            ∙ ap (λ o. decoded (take n s′) o) (sym (ap (λ o. backBy o m (length s)) (w .0) ∙ ap (λ t. cond t (ok m) (refuse 9)) (le-leb (length (take n s′)) (length s) (w .2))))
+            ∙ ap (λ o. decoded (octetsBy o) (back m (length s))) (sym (w .0));
         room = second e;
       }
 
-  pub no-trip : Encodes m s (Not n) s′ → (d : Decoded) → d .ok ≡ false → d .refusal ≡ n → ReadBack m s d s′
-  no-trip e d k l = record { same = rw (k, l) (go (encode m) e); room = second e }
+  pub no-trip : Encodes m s (Not n) s′ → (d : Decoded) → d ≡ noMessage n → ReadBack m s d s′
+  unfolding decoded
+  no-trip e d k = record { same = k ∙ ap (λ o. decoded (octetsBy (encode m)) o) (go (encode m) e); room = second e }
     where
       go : (o : Outcome (List ℕ)) → _≡_ {A = Wrote × List ℕ} (Not n, s′) (filled o s) → refuse n ≡ backBy o m (length s)
       go (refuse k) e = let c : Not n ≡ Not k = first e in let z : n ≡ k = cc in rw z

@@ -6,7 +6,7 @@ use Prim.Native.Nat.{ℕ}
 use lib.ListN.{length}
 use lib.Dec.{leb}
 use Rattle.messages.specs.Codec.{Msg, Outcome, ok, refuse, encode}
-use Rattle.reader.specs.Reading.{viewed}
+use Rattle.reader.specs.Held.{decoded}
 use Rattle.writer.specs.Writing.{filled}
 use Rattle.reader.specs.declared.Decoded.{Decoded}
 
@@ -25,5 +25,5 @@ octetsBy (refuse n) = []
 
 -- a message written into the room s and read back: what was read, and the room behind it
 pub record ReadBack (m : Msg) (s : List ℕ) (d : Decoded) (s′ : List ℕ) : Type 0 where
-  pub same : viewed (octetsBy (encode m)) d (d .ok) ≡ back m (length s)
+  pub same : d ≡ decoded (octetsBy (encode m)) (back m (length s))
   pub room : s′ ≡ filled (encode m) s .1

@@ -30,7 +30,7 @@ same-length : tie.Need-same-length
 same-length c = search needs
 
 returns : tie.Need-returns
-returns c = no-trip _ _ _ _ (rw (c .before .before .w .given .1) at (c .before .before .before .before .before .before .encode .ensures)) _ (c .refused .ensures .0) (c .refused .ensures .1)
+returns c = no-trip _ _ _ _ (rw (c .before .before .w .given .1) at (c .before .before .before .before .before .before .encode .ensures)) _ (c .refused .ensures)
 
 same-length-2 : tie.Need-same-length-2
 same-length-2 c = search needs
