@@ -1,3 +1,4 @@
+pub mod HeldLaws
 pub mod ItemLaws
 pub mod Loop
 pub mod RowLaws

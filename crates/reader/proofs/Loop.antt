@@ -1,12 +1,12 @@
 -- A message's fields, one after the other: the invariant of `take_fields`. Assumes nothing.
-use mathlib.Core.Path.{_≡_, refl, sym, ap, _∙_}
-use mathlib.Core.Bool.{true, false}
+use mathlib.Core.Path.{_≡_, refl, sym, ap, _∙_, subst}
+use mathlib.Core.Bool.{true, false, Bool}
 use mathlib.Core.List.{List, [], _∷_, _++_, append-assoc, append-nil}
 use Prim.Native.Nat.{ℕ, zero, suc, _+_, _-_, _*_, _/_, _%_, _^_, _<_, _≤_}
 use native.Mathlib.Numerals.{add-one}
 use native.Mathlib.Omega.{arith}
-use lib.ListN.{length, getD, take, drop, set, length-set, drop-of-length-le}
-use lib.Seq.{drop-cons, take-suc-set}
+use lib.ListN.{length, getD, take, drop, set, length-set, drop-of-length-le, replicate}
+use lib.Seq.{drop-cons, take-suc-set, length-take-le}
 use Rattle.octets.specs.Octets.{Read, got, no, follow, give}
 use Rattle.messages.specs.Messages.{Field}
 use Rattle.messages.specs.Columns.{fieldOf, kindAt, fieldsOf}
@@ -14,6 +14,8 @@ use Rattle.messages.specs.Codec.{takeField, takeFields, leftAfter}
 use Rattle.octets.specs.Places.{leftAt, bitsAt, behind}
 use Rattle.reader.specs.Reading.{TakesField, TakesFields}
 use Rattle.reader.specs.declared.Fields.{Fields}
+use Rattle.reader.specs.Held.{padded}
+use Rattle.reader.proofs.HeldLaws.{clear-more, padded-all, unlike}
 use Rattle.octets.specs.declared.Got.{Got}
 use Rattle.octets.specs.declared.Got.the-variants.{Value, No}
 use Rattle.messages.proofs.ColumnLaws.{length-fields, field-at}
@@ -36,11 +38,12 @@ pub record Sofar (s : List ℕ) (from : ℕ) (fs : List Field) (values : List �
   pub within : i ≤ length fs
   pub inside : at ≤ length s * 8
   pub places : length values ≡ 4
+  pub clear : drop i values ≡ replicate (4 - i) 0
   pub read : takeFields fs (leftAt from) (bitsAt s from) (behind s from) ≡ prepend (take i values) (takeFields (drop i fs) (leftAt at) (bitsAt s at) (behind s at))
 
-pub sofar-none : (s : List ℕ) (from : ℕ) (fs : List Field) (values : List ℕ) → from ≤ length s * 8 → length values ≡ 4 → Sofar s from fs values from 0
+pub sofar-none : (s : List ℕ) (from : ℕ) (fs : List Field) (values : List ℕ) → from ≤ length s * 8 → values ≡ replicate 4 0 → Sofar s from fs values from 0
 sofar-none s from fs values h p =
-    record { within = omega arith; inside = h; places = p; read = sym (prepend-none (takeFields fs (leftAt from) (bitsAt s from) (behind s from))) }
+    record { within = omega arith; inside = h; places = ap length p; clear = p; read = sym (prepend-none (takeFields fs (leftAt from) (bitsAt s from) (behind s from))) }
 
 module _ {s : List ℕ} {from : ℕ} {fs : List Field} {values : List ℕ} {at i : ℕ} (f : Field) (o : Sofar s from fs values at i) (more : i < length fs) (e : getD fs i (fieldOf 7) ≡ f) where
   step : takeFields (drop i fs) (leftAt at) (bitsAt s at) (behind s at)
@@ -53,6 +56,7 @@ module _ {s : List ℕ} {from : ℕ} {fs : List Field} {values : List ℕ} {at i
       record {
         same = rw (k, l) (sym (o .read ∙ ap (λ x. prepend (take i values) x) (step ∙ ap (λ x. follow x (λ v. λ os. follow (takeFields (drop (suc i) fs) (leftAfter f (leftAt at)) (v .1) os) (λ r. give (v .0 ∷ r .0, r .1)))) (sym (t .same)))));
         inside = h;
+        cells = λ t. absurd (unlike (sym k ∙ t));
       }
 
   pub sofar-more : (v next : ℕ) → TakesField s at f (Value v next) → i < 4 → Sofar s from fs (set values i v) next (i + 1)
@@ -61,20 +65,23 @@ module _ {s : List ℕ} {from : ℕ} {fs : List Field} {values : List ℕ} {at i
         within = omega arith;
         inside = t .inside;
         places = length-set values i v ∙ o .places;
+        clear = clear-more 4 i values (o .clear) v h;
         read = rw (add-one, take-suc-set values i v (omega (arith, o .places)), t .leaves)
             (o .read
             ∙ ap (λ x. prepend (take i values) x) (step ∙ ap (λ x. follow x (λ v. λ os. follow (takeFields (drop (suc i) fs) (leftAfter f (leftAt at)) (v .1) os) (λ r. give (v .0 ∷ r .0, r .1)))) (sym (t .same)))
             ∙ prepend-one (take i values) v (takeFields (drop (suc i) fs) (leftAfter f (leftAt at)) (bitsAt s next) (behind s next)));
       }
 
-pub sofar-all : {s : List ℕ} {from : ℕ} {fs : List Field} {values : List ℕ} {at i : ℕ} → Sofar s from fs values at i → (count : ℕ) → length fs ≡ count → count ≤ i
+pub sofar-all : {s : List ℕ} {from : ℕ} {fs : List Field} {values : List ℕ} {at i : ℕ} → Sofar s from fs values at i → (count : ℕ) → length fs ≡ count → count ≤ i → count ≤ 4
     → (r : Fields) → r .ok ≡ true → r .at ≡ at → r .values ≡ values → TakesFields s from fs count r
 unfolding prepend
-sofar-all {fs = fs} {i = i} o count c h r k l m =
+sofar-all {fs = fs} {values = values} {i = i} o count c h small r k l m =
     let z : i ≡ count = omega (arith, o .within) in
+    let four : i ≤ length values = omega (arith, o .places) in
     record {
       same = rw (k, l, m) (sym (o .read ∙ rw (drop-of-length-le fs {i = i} (omega arith), append-nil, z)));
       inside = rw l (o .inside);
+      cells = λ t. rw m (subst (λ j. (values ≡ padded 4 (take j values)) × (length (take j values) ≡ j)) z (padded-all 4 i values (o .clear) four, length-take-le i values four));
     }
 
 -- the same at a message's fields, as the table of messages has them
@@ -93,4 +100,4 @@ module _ {s : List ℕ} {from count : ℕ} {values : List ℕ} {at i : ℕ} (row
     fields-more v next e = sofar-more (fieldOf k) o more here v next (rw e at t) (omega arith)
 
   pub fields-all : count ≤ i → TakesFields s from (fieldsOf row count) count (record { ok = true; refusal = 0; at = at; values = values })
-  fields-all h = sofar-all o count (length-fields row count c) h _ refl refl refl
+  fields-all h = sofar-all o count (length-fields row count c) h c _ refl refl refl

@@ -1,16 +1,17 @@
 -- What the functions of src/ answer, as what the readers of Octets and Codec give at a place in a message's octets.
 use mathlib.Core.Path.{_≡_}
-use mathlib.Core.Bool.{Bool, true, false}
+use mathlib.Core.Bool.{Bool, true, false, cond}
 use mathlib.Core.List.{List, [], _∷_, _++_}
 use Prim.Native.Nat.{ℕ, _+_, _-_, _*_, _/_, _%_, _^_, _≤_, _<_}
 use lib.Dec.{leb}
 use lib.ListN.{length, getD, take, drop}
+use Rattle.messages.specs.Limits.{list-limit}
 use Rattle.octets.specs.Octets.{Read, got, no, Reader, follow, give, need, readItems, Tail, nothing, list}
 use Rattle.messages.specs.Messages.{Field, row}
 use Rattle.messages.specs.Codec.{leftAfter, takeField, takeFields, takeBody, takeRow, Msg, Outcome, ok, refuse, ending, decode}
 use Rattle.reader.specs.declared.Fields.{Fields}
 use Rattle.reader.specs.declared.Items.{Items}
-use Rattle.reader.specs.declared.Decoded.{Decoded}
+use Rattle.reader.specs.Held.{padded}
 use Rattle.octets.specs.declared.Got.{Got}
 use Rattle.octets.specs.declared.Got.the-variants.{Value, No}
 use Rattle.octets.specs.Places.{leftAt, bitsAt, behind, Bitwise}
@@ -27,6 +28,7 @@ atFields s count r false = no (r .refusal)
 pub record TakesFields (s : List ℕ) (from : ℕ) (fs : List Field) (count : ℕ) (r : Fields) : Type 0 where
   pub same : atFields s count r (r .ok) ≡ takeFields fs (leftAt from) (bitsAt s from) (behind s from)
   pub inside : r .at ≤ length s * 8
+  pub cells : r .ok ≡ true → (r .values ≡ padded 4 (take count (r .values))) × (length (take count (r .values)) ≡ count)
 
 -- a list behind its length, and the same by kind
 abbrev pub restOf : Tail → ℕ → Reader (List ℕ)
@@ -44,14 +46,17 @@ abbrev pub atItems : List ℕ → Items → Bool → Read (List ℕ)
 atItems s r true = got (itemsOf s (r .octets) (r .start) (r .count) (r .ids)) (drop (r .next) s)
 atItems s r false = no (r .refusal)
 
-pub record ReadsItems (s : List ℕ) (r : Items) (spec : Read (List ℕ)) : Type 0 where
+-- a string ends where the next part starts; of ids, the cells behind the last are 0
+pub record Holds (s : List ℕ) (octets : Bool) (r : Items) : Type 0 where
+  pub kind : r .octets ≡ octets
+  pub many : length (itemsOf s octets (r .start) (r .count) (r .ids)) ≡ r .count
+  pub starts : r .start ≡ cond octets (r .next - r .count) 0
+  pub cells : r .ids ≡ padded list-limit (cond octets [] (take (r .count) (r .ids)))
+
+pub record ReadsItems (s : List ℕ) (octets : Bool) (r : Items) (spec : Read (List ℕ)) : Type 0 where
   pub same : atItems s r (r .ok) ≡ spec
   pub inside : r .next ≤ length s
-
--- a message, as src/ holds it
-abbrev pub viewed : List ℕ → Decoded → Bool → Outcome Msg
-viewed s r true = ok (record { number = r .number; values = take (r .have) (r .values); items = itemsOf s (r .octets) (r .start) (r .count) (r .ids) })
-viewed s r false = refuse (r .refusal)
+  pub holds : r .ok ≡ true → Holds s octets r
 
 abbrev pub message : ℕ → List ℕ × List ℕ → Reader Msg
 message n r = give (record { number = n; values = r .0; items = r .1 })

@@ -15,6 +15,7 @@ use octets::wide;
 ghost use mathlib.Core.Path.{_≡_};
 ghost use Prim.Native.Nat.{_+_, _*_, _-_, _<_, _≤_};
 ghost use mathlib.Core.Bool.{true, false};
+ghost use lib.Dec.{eqb};
 ghost use lib.ListN.{length, drop};
 ghost use Rattle.octets.specs.Octets.{anId, aNumber, anOctet, readItems, readTail};
 ghost use Rattle.messages.specs.Limits.{list-limit, message-limit};
@@ -22,7 +23,8 @@ ghost use Rattle.messages.specs.Messages.{code, item};
 ghost use Rattle.messages.specs.Columns.{fieldOf, fieldsOf, tailOf};
 ghost use Rattle.octets.specs.Bits.{takeBits, after};
 ghost use Rattle.octets.specs.Places.{leftAt, bitsAt, behind, Bitwise, cappedOf, inBits, EndsAt};
-ghost use Rattle.reader.specs.Reading.{TakesField, TakesFields, ReadsItems, listed, viewed, bodyAt, rowAt, decodeOf};
+ghost use Rattle.reader.specs.Reading.{TakesField, TakesFields, ReadsItems, listed, bodyAt, rowAt, decodeOf};
+ghost use Rattle.reader.specs.Held.{noMessage, decoded};
 ghost use Rattle.reader.specs.Stepping.{FieldAt, Steps};
 
 // The value of the bits left of an octet begun, at a bit.
@@ -204,7 +206,7 @@ fn no_items(n: u8) -> Items
 // Some ids.
 fn read_ids(s: &[u8], from: usize, low: u16, count: usize) -> Items
     requires { ⌜ (from ≤ length (now s)) × (count ≤ list-limit) ⌝ }
-    ensures { λ r. ⌜ ReadsItems (now (s .entry)) r (readItems (anId low) count (drop from (now (s .entry)))) ⌝ }
+    ensures { λ r. ⌜ ReadsItems (now (s .entry)) false r (readItems (anId low) count (drop from (now (s .entry)))) ⌝ }
 {
     let mut ids = [0u16; LIST_LIMIT];
     let mut at = from;
@@ -234,7 +236,7 @@ fn read_ids(s: &[u8], from: usize, low: u16, count: usize) -> Items
 // Some octets, where they stand.
 fn read_octets(s: &[u8], from: usize, count: usize) -> Items
     requires { ⌜ (from ≤ length (now s)) × (count < 65536) × (length (now s) ≤ message-limit) ⌝ }
-    ensures { λ r. ⌜ ReadsItems (now (s .entry)) r (readItems anOctet count (drop from (now (s .entry)))) ⌝ }
+    ensures { λ r. ⌜ ReadsItems (now (s .entry)) true r (readItems anOctet count (drop from (now (s .entry)))) ⌝ }
 {
     if s.len() < from + count {
         return no_items(5);
@@ -254,7 +256,7 @@ fn read_octets(s: &[u8], from: usize, count: usize) -> Items
 // A list's items, of a kind of the table of messages, behind its length.
 fn read_list(s: &[u8], from: usize, kind: u8, n: u32) -> Items
     requires { ⌜ (from ≤ length (now s)) × (length (now s) ≤ message-limit) × (kind ≡ 0 → ⊥) ⌝ }
-    ensures { λ r. ⌜ ReadsItems (now (s .entry)) r (listed kind n (drop from (now (s .entry)))) ⌝ }
+    ensures { λ r. ⌜ ReadsItems (now (s .entry)) (eqb kind 3) r (listed kind n (drop from (now (s .entry)))) ⌝ }
 {
     if kind == 3 {
         if STRING_LIMIT < n as usize {
@@ -274,7 +276,7 @@ fn read_list(s: &[u8], from: usize, kind: u8, n: u32) -> Items
 
 fn read_tail(s: &[u8], from: usize, kind: u8) -> Items
     requires { ⌜ (from ≤ length (now s)) × (length (now s) ≤ message-limit) ⌝ }
-    ensures { λ r. ⌜ ReadsItems (now (s .entry)) r (readTail (tailOf kind) (drop from (now (s .entry)))) ⌝ }
+    ensures { λ r. ⌜ ReadsItems (now (s .entry)) (eqb kind 3) r (readTail (tailOf kind) (drop from (now (s .entry)))) ⌝ }
 {
     if kind == 0 {
         let ids = [0u16; LIST_LIMIT];
@@ -308,8 +310,9 @@ pub struct Decoded {
     pub ids: [u16; LIST_LIMIT],
 }
 
-fn refused(n: u8) -> Decoded
-    ensures { λ r. ⌜ (r .ok ≡ false) × (r .refusal ≡ n) ⌝ }
+// No message, and why.
+pub fn refused(n: u8) -> Decoded
+    ensures { λ r. ⌜ r ≡ noMessage n ⌝ }
 {
     let values = [0u32; 4];
     let ids = [0u16; LIST_LIMIT];
@@ -329,7 +332,7 @@ fn refused(n: u8) -> Decoded
 // The fields of a message, from the bit at on, and what follows them, to its end.
 fn decode_body(s: &[u8], at: usize, count: usize, number: u32) -> Decoded
     requires { ⌜ (at ≤ length (now s) * 8) × (length (now s) ≤ message-limit) × (count ≤ 4) ⌝ }
-    ensures { λ r. ⌜ viewed (now (s .entry)) r (r .ok) ≡ bodyAt (now (s .entry)) at count number ⌝ }
+    ensures { λ r. ⌜ r ≡ decoded (now (s .entry)) (bodyAt (now (s .entry)) at count number) ⌝ }
 {
     let f = take_fields(s, at, number, count);
     if !f.ok {
@@ -366,7 +369,7 @@ fn decode_body(s: &[u8], at: usize, count: usize, number: u32) -> Decoded
 // A message, by its number.
 fn decode_row(s: &[u8], at: usize, number: u32) -> Decoded
     requires { ⌜ (at ≤ length (now s) * 8) × (length (now s) ≤ message-limit) × (leftAt at ≡ 2) ⌝ }
-    ensures { λ r. ⌜ viewed (now (s .entry)) r (r .ok) ≡ rowAt (now (s .entry)) at number ⌝ }
+    ensures { λ r. ⌜ r ≡ decoded (now (s .entry)) (rowAt (now (s .entry)) at number) ⌝ }
 {
     let form = form_of(number);
     if 2 < form {
@@ -394,7 +397,7 @@ fn decode_row(s: &[u8], at: usize, number: u32) -> Decoded
 
 // The message of these octets.
 pub fn decode(s: &[u8]) -> Decoded
-    ensures { λ r. ⌜ viewed (now (s .entry)) r (r .ok) ≡ decodeOf (now (s .entry)) ⌝ }
+    ensures { λ r. ⌜ r ≡ decoded (now (s .entry)) (decodeOf (now (s .entry))) ⌝ }
 {
     if s.len() == 0 {
         return refused(4);

@@ -1,5 +1,5 @@
 use mathlib.Core.Path.{sym, _∙_}
-use Rattle.reader.proofs.BodyLaws.{refused-is}
+use Rattle.reader.proofs.HeldLaws.{refused-is, decoded-as}
 use Rattle.octets.proofs.Reading.{ends-value}
 use Rattle.reader.proofs.RowLaws.{decode-none, decode-over, decode-no, number-left, decode-is}
 use borrow.Author.Needs.{needs}
@@ -37,7 +37,7 @@ returns-3 : tie.Need-returns-3
 returns-3 c = refused-is _ _ _ _ (c .refused3 .ensures) (decode-no _ (c .before .before .before .before .before .before .if1 .left) (c .before .before .before .before .before .if2 .left) (c .before .before .before .before .take-code .result) (c .before .before .before .before .take-code .ensures) _ (c .before .before .g .given .1))
 
 returns-4 : tie.Need-returns-4
-returns-4 c = c .decode-row .ensures ∙ sym (decode-is _ (c .before .before .before .before .before .before .if1 .left) (c .before .before .before .before .before .if2 .left) (c .before .before .before .before .take-code .result) (c .before .before .before .before .take-code .ensures) _ _ (c .before .before .g2 .given .1))
+returns-4 c = decoded-as _ _ _ (c .decode-row .ensures) (sym (decode-is _ (c .before .before .before .before .before .before .if1 .left) (c .before .before .before .before .before .if2 .left) (c .before .before .before .before .take-code .result) (c .before .before .before .before .take-code .ensures) _ _ (c .before .before .g2 .given .1)))
 
 pub decode-spec : {M : Type 1} → statement M
 decode-spec =

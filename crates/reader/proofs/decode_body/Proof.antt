@@ -1,7 +1,8 @@
 use borrow.Author.Needs.{needs}
 use borrow.Author.Tests.{not-true, not-false}
 use mathlib.Core.Path.{sym}
-use Rattle.reader.proofs.BodyLaws.{refused-is, body-no, body-pad, body-tail-no, body-over, body-is}
+use Rattle.reader.proofs.HeldLaws.{refused-is}
+use Rattle.reader.proofs.BodyLaws.{body-no, body-pad, body-tail-no, body-over, body-is}
 use Rattle.reader.proofs.decode_body.Statement.{statement}
 use Rattle.reader.proofs.decode_body.Tie as tie
 
@@ -45,7 +46,7 @@ returns-4 : tie.Need-returns-4
 returns-4 c = refused-is _ _ _ _ (c .refused4 .ensures) (body-over _ _ _ _ (c .before .before .before .before .before .before .before .before .before .before .before .take-fields .result) (c .before .before .before .before .before .before .before .before .before .before .before .take-fields .ensures) (not-false _ (c .before .before .before .before .before .before .before .before .before .if1 .left)) (c .before .before .before .before .before .before .before .before .bits-at .result) (c .before .before .before .before .before .before .before .before .bits-at .ensures .0) (c .before .before .before .before .before .before .before .if2 .left) _ (c .before .before .before .before .before .before .tail-of .ensures) (c .before .before .before .before .before .read-tail .result) (c .before .before .before .before .before .read-tail .ensures) (not-false _ (c .before .before .before .if3 .left)) (c .before .if4 .taken))
 
 returns-5 : tie.Need-returns-5
-returns-5 c = sym (body-is _ _ _ _ (c .before .before .before .before .before .before .before .before .before .before .before .before .take-fields .result) (c .before .before .before .before .before .before .before .before .before .before .before .before .take-fields .ensures) (not-false _ (c .before .before .before .before .before .before .before .before .before .before .if1 .left)) (c .before .before .before .before .before .before .before .before .before .bits-at .result) (c .before .before .before .before .before .before .before .before .before .bits-at .ensures .0) (c .before .before .before .before .before .before .before .before .if2 .left) _ (c .before .before .before .before .before .before .before .tail-of .ensures) (c .before .before .before .before .before .before .read-tail .result) (c .before .before .before .before .before .before .read-tail .ensures) (not-false _ (c .before .before .before .before .if3 .left)) (c .before .before .if4 .left))
+returns-5 c = body-is _ _ _ _ (c .before .before .before .before .before .before .before .before .before .before .before .before .take-fields .result) (c .before .before .before .before .before .before .before .before .before .before .before .before .take-fields .ensures) (not-false _ (c .before .before .before .before .before .before .before .before .before .before .if1 .left)) (c .before .before .before .before .before .before .before .before .before .bits-at .result) (c .before .before .before .before .before .before .before .before .before .bits-at .ensures .0) (c .before .before .before .before .before .before .before .before .if2 .left) _ (c .before .before .before .before .before .before .before .tail-of .ensures) (c .before .before .before .before .before .before .read-tail .result) (c .before .before .before .before .before .before .read-tail .ensures) (not-false _ (c .before .before .before .before .if3 .left)) (c .before .before .if4 .left)
 
 pub decode-body-spec : {M : Type 1} → statement M
 decode-body-spec =

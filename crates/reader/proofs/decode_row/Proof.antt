@@ -1,6 +1,6 @@
 use native.Mathlib.Omega.{arith}
 use mathlib.Core.Path.{sym, _∙_}
-use Rattle.reader.proofs.BodyLaws.{refused-is}
+use Rattle.reader.proofs.HeldLaws.{refused-is, decoded-as}
 use Rattle.octets.proofs.Reading.{ends-value}
 use Rattle.messages.proofs.ColumnLaws.{count-one-more}
 use Rattle.reader.proofs.RowLaws.{row-unknown, row-uncovered, row-plain, row-no, row-present, row-absent}
@@ -30,7 +30,7 @@ decode-body-requires : tie.Need-decode-body-requires
 decode-body-requires c κs = search needs
 
 returns-3 : tie.Need-returns-3
-returns-3 c = c .decode-body .ensures ∙ rw (c .before .before .count-of .ensures .0) (sym (row-plain _ _ _ (sym (c .before .before .before .before .before .form-of .ensures) ∙ c .before .if3 .taken) (search needs)))
+returns-3 c = decoded-as _ _ _ (c .decode-body .ensures) (rw (c .before .before .count-of .ensures .0) (sym (row-plain _ _ _ (sym (c .before .before .before .before .before .form-of .ensures) ∙ c .before .if3 .taken) (search needs))))
 
 take-code-requires : tie.Need-take-code-requires
 take-code-requires c κs = search needs
@@ -57,10 +57,10 @@ returns-4 : tie.Need-returns-4
 returns-4 c = refused-is _ _ _ _ (c .refused3 .ensures) (row-no _ (c .before .before .before .before .before .before .before .before .before .before .before .args .at) (c .before .before .before .before .before .before .before .before .before .before .before .args .number) (omega (arith, c .before .before .before .before .before .before .before .before .before .form-of .ensures, c .before .before .before .before .before .before .before .before .if1 .left, c .before .before .before .before .before .before .before .if2 .left, c .before .before .before .before .before .if3 .left)) (search needs) (c .before .before .before .before .take-code .result) (c .before .before .before .before .take-code .ensures) _ (c .before .before .g .given .1))
 
 returns-5 : tie.Need-returns-5
-returns-5 c = c .decode-body2 .ensures ∙ rw (c .before .before .before .before .before .before .before .count-of .ensures .0) (sym (row-present _ (c .before .before .before .before .before .before .before .before .before .before .before .before .args .at) (c .before .before .before .before .before .before .before .before .before .before .before .before .args .number) (omega (arith, c .before .before .before .before .before .before .before .before .before .before .form-of .ensures, c .before .before .before .before .before .before .before .before .before .if1 .left, c .before .before .before .before .before .before .before .before .if2 .left, c .before .before .before .before .before .before .if3 .left)) (search needs) (c .before .before .before .before .before .take-code .result) (c .before .before .before .before .before .take-code .ensures) _ _ (c .before .before .before .g2 .given .1) (c .before .if4 .taken)))
+returns-5 c = decoded-as _ _ _ (c .decode-body2 .ensures) (rw (c .before .before .before .before .before .before .before .count-of .ensures .0) (sym (row-present _ (c .before .before .before .before .before .before .before .before .before .before .before .before .args .at) (c .before .before .before .before .before .before .before .before .before .before .before .before .args .number) (omega (arith, c .before .before .before .before .before .before .before .before .before .before .form-of .ensures, c .before .before .before .before .before .before .before .before .before .if1 .left, c .before .before .before .before .before .before .before .before .if2 .left, c .before .before .before .before .before .before .if3 .left)) (search needs) (c .before .before .before .before .before .take-code .result) (c .before .before .before .before .before .take-code .ensures) _ _ (c .before .before .before .g2 .given .1) (c .before .if4 .taken))))
 
 returns-6 : tie.Need-returns-6
-returns-6 c = c .decode-body3 .ensures ∙ rw (c .before .before .before .before .before .before .before .count-of .ensures .0) (sym (row-absent _ (c .before .before .before .before .before .before .before .before .before .before .before .before .args .at) (c .before .before .before .before .before .before .before .before .before .before .before .before .args .number) (omega (arith, c .before .before .before .before .before .before .before .before .before .before .form-of .ensures, c .before .before .before .before .before .before .before .before .before .if1 .left, c .before .before .before .before .before .before .before .before .if2 .left, c .before .before .before .before .before .before .if3 .left)) (search needs) (c .before .before .before .before .before .take-code .result) (c .before .before .before .before .before .take-code .ensures) _ _ (c .before .before .before .g2 .given .1) (c .before .if4 .left)))
+returns-6 c = decoded-as _ _ _ (c .decode-body3 .ensures) (rw (c .before .before .before .before .before .before .before .count-of .ensures .0) (sym (row-absent _ (c .before .before .before .before .before .before .before .before .before .before .before .before .args .at) (c .before .before .before .before .before .before .before .before .before .before .before .before .args .number) (omega (arith, c .before .before .before .before .before .before .before .before .before .before .form-of .ensures, c .before .before .before .before .before .before .before .before .before .if1 .left, c .before .before .before .before .before .before .before .before .if2 .left, c .before .before .before .before .before .before .if3 .left)) (search needs) (c .before .before .before .before .before .take-code .result) (c .before .before .before .before .before .take-code .ensures) _ _ (c .before .before .before .g2 .given .1) (c .before .if4 .left))))
 
 pub decode-row-spec : {M : Type 1} → statement M
 decode-row-spec =

@@ -24,7 +24,7 @@ no-items-requires : tie.Need-no-items-requires Inv-loop μ-loop
 no-items-requires c κs = search needs
 
 returns : tie.Need-returns Inv-loop μ-loop
-returns c = items-no _ _ _ _ (c .no-items .ensures) (sofar-no (c .before .before .before .before .before .before .loop .inv) (c .before .before .before .before .before .loop-test .taken) _ _ (c .before .before .g .given .1) (c .before .before .before .before .read-id .ensures))
+returns c = items-no _ _ _ _ _ (c .no-items .ensures) (sofar-no (c .before .before .before .before .before .before .loop .inv) (c .before .before .before .before .before .loop-test .taken) _ _ (c .before .before .g .given .1) (c .before .before .before .before .read-id .ensures))
 
 enum-known-g-2 : tie.Need-enum-known-g-2 Inv-loop μ-loop
 enum-known-g-2 c = search needs
@@ -48,7 +48,7 @@ loop-again : tie.Need-loop-again Inv-loop μ-loop
 loop-again c = ids-more (c .before .before .before .before .before .loop .inv) (c .before .before .before .before .loop-test .taken) _ _ _ (c .before .g2 .given .1) (c .before .before .before .read-id .ensures) (search needs)
 
 returns-2 : tie.Need-returns-2 Inv-loop μ-loop
-returns-2 c = ids-all (c .before .loop .inv) (c .loop-test .left)
+returns-2 c = ids-all (c .before .loop .inv) (c .loop-test .left) (search needs)
 
 pub read-ids-spec : {M : Type 1} → statement M
 read-ids-spec =

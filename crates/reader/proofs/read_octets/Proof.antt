@@ -1,3 +1,4 @@
+use mathlib.Core.Path.{refl}
 use borrow.Author.Needs.{needs}
 use Rattle.reader.proofs.ListLaws.{octets-no, octets-is}
 use Rattle.reader.proofs.read_octets.Statement.{statement}
@@ -16,7 +17,7 @@ add-t5 : tie.Need-add-t5
 add-t5 c = search needs
 
 returns-2 : tie.Need-returns-2
-returns-2 c = octets-is _ _ _ (search needs) _ (c .if1 .left)
+returns-2 c = octets-is _ _ _ (search needs) _ refl (c .if1 .left)
 
 pub read-octets-spec : {M : Type 1} → statement M
 read-octets-spec = tie.close (tie.spec add-if1 no-items-requires returns add-t5 returns-2)

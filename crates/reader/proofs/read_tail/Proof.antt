@@ -1,3 +1,4 @@
+use mathlib.Core.Path.{refl}
 use borrow.Author.Needs.{needs}
 use Rattle.reader.proofs.ListLaws.{tail-none, tail-no, tail-is}
 use Rattle.octets.proofs.Reading.{ends-value}
@@ -5,7 +6,7 @@ use Rattle.reader.proofs.read_tail.Statement.{statement}
 use Rattle.reader.proofs.read_tail.Tie as tie
 
 returns : tie.Need-returns
-returns c = tail-none _ _ _ _ (c .if1 .taken) (search needs)
+returns c = tail-none _ _ _ _ refl (c .if1 .taken) (search needs)
 
 read-length-requires : tie.Need-read-length-requires
 read-length-requires c κs = search needs

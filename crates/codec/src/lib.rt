@@ -1,0 +1,25 @@
+// The writer and the reader together: what is written is read back.
+use reader::Decoded;
+use reader::decode;
+use reader::refused;
+use writer::Wrote;
+use writer::encode;
+ghost use Rattle.codec.specs.RoundTrip.{ReadBack};
+ghost use Rattle.writer.specs.Writing.{given};
+
+// A message written and read back from the octets written.
+pub fn encode_decode(
+    number: u32,
+    values: &[u32],
+    ids: &[u16],
+    octets: &[u8],
+    out: &mut [u8],
+) -> Decoded
+    ensures { λ r. ⌜ ReadBack (given number (now (values .entry)) (now (ids .entry)) (now (octets .entry))) (now (out .entry)) r (now (out .exit)) ⌝ }
+{
+    let w = encode(number, values, ids, octets, out);
+    match w {
+        Wrote::Not(n) => refused(n),
+        Wrote::Upto(n) => decode(&out[..n]),
+    }
+}

@@ -1,0 +1,7 @@
+-- The line card's question: the message's number, or 64 plus the codec's refusal.
+use Prim.Native.Nat.{ℕ, _+_}
+use Rattle.messages.specs.Codec.{Msg, Outcome, ok, refuse}
+
+abbrev pub answerOf : Outcome Msg → ℕ
+answerOf (ok m) = m .number
+answerOf (refuse n) = 64 + n

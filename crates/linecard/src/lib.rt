@@ -1,0 +1,18 @@
+// The one question that the line card's C program asks.
+use reader::decode;
+ghost use mathlib.Core.Path.{_≡_};
+ghost use Rattle.reader.specs.Reading.{decodeOf};
+ghost use Rattle.linecard.specs.Answers.{answerOf};
+
+// The line card's question: the number of the message, or 64 plus the refusal.
+#[no_mangle]
+pub extern "C" fn message_number(s: &[u8]) -> u32
+    ensures { λ r. ⌜ r ≡ answerOf (decodeOf (now (s .entry))) ⌝ }
+{
+    let d = decode(s);
+    if d.ok {
+        d.number
+    } else {
+        64 + d.refusal as u32
+    }
+}

@@ -1,0 +1,11 @@
+use mathlib.Core.Path.{refl}
+use Rattle.reader.specs.Held.{noMessage}
+use Rattle.reader.proofs.refused.Statement.{statement}
+use Rattle.reader.proofs.refused.Tie as tie
+
+returns : tie.Need-returns
+unfolding noMessage
+returns c = refl
+
+pub refused-spec : {M : Type 1} → statement M
+refused-spec = tie.close (tie.spec returns)
