@@ -1,0 +1,86 @@
+/* Times reading and writing a token message, and the stack that they touch. Least processor time of many tries. */
+#define _GNU_SOURCE
+#include <pthread.h>
+#include <stdint.h>
+#include <stdio.h>
+#include <stdlib.h>
+#include <string.h>
+#include <sys/mman.h>
+#include <time.h>
+
+uint32_t read_many(const uint8_t *octets, size_t length, uint32_t rounds);
+uint32_t write_many(uint32_t rounds);
+
+static const uint8_t grab[] = {0x74, 0x00, 0x06, 0x00, 0x00};
+static const uint8_t confirm[] = {0x7A, 0x40, 0x00, 0x06, 0x00, 0x00, 0x40};
+static uint8_t detach[131] = {0x30, 0x00, 0x40}; /* DUrq of 64 ids, all 1001 */
+static volatile uint32_t sink;
+static uint32_t rounds = 1000;
+
+static void read_grab(void) { sink = read_many(grab, sizeof grab, rounds); }
+static void read_confirm(void) { sink = read_many(confirm, sizeof confirm, rounds); }
+static void read_detach(void) { sink = read_many(detach, sizeof detach, rounds); }
+static void write_confirm(void) { sink = write_many(rounds); }
+static void nothing(void) {}
+
+static double now(void)
+{
+    struct timespec t;
+    clock_gettime(CLOCK_THREAD_CPUTIME_ID, &t);
+    return t.tv_sec * 1e9 + t.tv_nsec;
+}
+
+static double best(void (*f)(void))
+{
+    double least = 1e300;
+    for (int i = 0; i < 300; i++) {
+        double a = now();
+        f();
+        double t = now() - a;
+        if (t < least)
+            least = t;
+    }
+    return least / rounds;
+}
+
+static void *start(void *f)
+{
+    ((void (*)(void))f)();
+    return 0;
+}
+
+/* f runs on a thread whose stack is filled with a pattern; how far it was written. */
+static size_t touched(void (*f)(void))
+{
+    size_t size = 1u << 20, i = 0;
+    unsigned char *s = mmap(0, size, PROT_READ | PROT_WRITE, MAP_PRIVATE | MAP_ANONYMOUS, -1, 0);
+    memset(s, 0xA5, size);
+    pthread_attr_t a;
+    pthread_attr_init(&a);
+    pthread_attr_setstack(&a, s, size);
+    pthread_t t;
+    if (pthread_create(&t, &a, start, (void *)f))
+        abort();
+    pthread_join(t, 0);
+    while (i < size && s[i] == 0xA5)
+        i++;
+    munmap(s, size);
+    return size - i;
+}
+
+static void report(const char *name, void (*f)(void))
+{
+    rounds = 1000;
+    double ns = best(f);
+    rounds = 1;
+    printf("%-28s %8.1f ns  %6zu octets of stack\n", name, ns, touched(f) - touched(nothing));
+}
+
+int main(void)
+{
+    report("read TGrq", read_grab);
+    report("read TGcf", read_confirm);
+    report("read DUrq of 64 ids", read_detach);
+    report("write TGcf", write_confirm);
+    return 0;
+}
