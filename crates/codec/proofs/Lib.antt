@@ -1,1 +1,2 @@
 pub mod RoundTripLaws
+pub mod OneOutcome

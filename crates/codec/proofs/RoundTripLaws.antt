@@ -73,7 +73,3 @@ module _ (m : Msg) (s s′ : List ℕ) (n : ℕ) where
               → refuse n ≡ cond (leb (length os) (length s)) (ok m) (refuse 9)
           pick true k f = absurd (apart (sym (first f)))
           pick false k f = let c : Not n ≡ Not 9 = first f in let z : n ≡ 9 = cc in rw (k, z)
-
--- two outcomes that the writer's promise allows are equal
-pub one-outcome : (m : Msg) (s : List ℕ) (r r′ : Wrote) (t t′ : List ℕ) → Encodes m s r t → Encodes m s r′ t′ → _≡_ {A = Wrote × List ℕ} (r, t) (r′, t′)
-one-outcome m s r r′ t t′ a b = a ∙ sym b
