@@ -1,11 +1,8 @@
--- Every example of the table holds. Assumes nothing.
+-- Every example of the table holds: both sides compute to the same. Assumes nothing.
 use mathlib.Core.Path.{refl}
-use Rattle.octets.specs.Octets.{readItem, counted, fewest, readLength, size}
-use Rattle.octets.specs.Bits.{takeBits}
-use Rattle.messages.specs.Messages.{entry, row}
-use Rattle.messages.specs.Codec.{decode, takeField}
-use Rattle.examples.specs.Examples.{All, examples}
+use Rattle.examples.specs.Examples.{All, examples, goes, on-0, heard, seen}
+use Rattle.examples.proofs.Opened.{opened}
 
 pub examples-hold : All examples
-unfolding decode row entry takeField takeBits readItem counted fewest readLength size
-examples-hold = (refl, (refl, (refl, (refl, (refl, (refl, (refl, (refl, tt))))))))
+unfolding opened goes on-0 heard seen
+examples-hold = (refl, (refl, (refl, (refl, (refl, (refl, (refl, (refl, (refl, (refl, (refl, (refl, (refl, (refl, tt))))))))))))))

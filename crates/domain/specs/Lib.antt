@@ -1,0 +1,9 @@
+pub mod Numbers
+pub mod Cells
+pub mod Tokens
+pub mod Tables
+pub mod Effects
+pub mod Channels
+pub mod Leaving
+pub mod Passing
+pub mod Events

@@ -1,0 +1,17 @@
+-- Laws of masks and of columns, in reading order.
+-- tests, numbers below n, and masks: digit by digit, and masks whose elements all have a property
+pub mod Bools
+pub mod Below
+pub mod Digits
+pub mod Counts
+pub mod Marks
+-- any table of places: a search and a loop, what each place holds, a table in order and what keeps it so, what each id holds, the ids listed
+pub mod Places
+pub mod Rows
+pub mod Table
+pub mod Found
+pub mod Members
+pub mod Order
+-- the code's answers and loops
+pub mod Answers
+pub mod Turns

@@ -1,0 +1,35 @@
+-- Members of a list of ids: by their places, and of what is kept of it.
+use mathlib.Core.Path.{_≡_, refl, sym, ap, _∙_}
+use mathlib.Core.Bool.{Bool, true, false, _&&_, _||_, false≢true, or-true, and-false}
+use mathlib.Core.List.{List, [], _∷_}
+use Prim.Native.Nat.{ℕ, zero, suc, _<_}
+use native.Mathlib.Omega.{arith}
+use native.Mathlib.Nat.{le-of-suc-le-suc}
+use lib.Dec.{eqb}
+use lib.ListN.{length, getD}
+use borrow.Author.Tests.{eq-eqb, eqb-true}
+use Rattle.places.specs.Sets.{if_then_else_, any, member, keep}
+use Rattle.places.proofs.Bools.{or-elim}
+
+pub member-at : (ids : List ℕ) (i : ℕ) → i < length ids → member (getD ids i 0) ids ≡ true
+unfolding member any
+member-at [] i h = absurd (omega arith)
+member-at (x ∷ ids) zero h = rw (eq-eqb x x refl)
+member-at (x ∷ ids) (suc i) h = rw (member-at ids i (le-of-suc-le-suc h)) (or-true (eqb (getD ids i 0) x))
+
+pub member-where : (xs : List ℕ) (x : ℕ) → member x xs ≡ true → (j : ℕ) × (getD xs j 0 ≡ x)
+unfolding member any
+member-where [] x h = absurd (false≢true h)
+member-where (y ∷ xs) x h = or-elim (eqb x y) (member x xs) h (λ e. (0, sym (eqb-true x y e))) (λ k. let r = member-where xs x k in (suc (r .0), r .1))
+
+pub member-keep : (f : ℕ → Bool) (u : ℕ) (xs : List ℕ) → member u (keep f xs) ≡ (f u && member u xs)
+unfolding member any keep
+member-keep f u [] = sym (and-false (f u))
+member-keep f u (x ∷ xs) = go (f x) refl (eqb u x) refl (member-keep f u xs)
+  where
+    go : (b : Bool) → f x ≡ b → (c : Bool) → eqb u x ≡ c → member u (keep f xs) ≡ (f u && member u xs)
+        → member u (if b then x ∷ keep f xs else keep f xs) ≡ (f u && (c || member u xs))
+    go true p true q h = rw (q, ap f (eqb-true u x q) ∙ p)
+    go true p false q h = rw q h
+    go false p true q h = h ∙ rw (ap f (eqb-true u x q) ∙ p)
+    go false p false q h = h

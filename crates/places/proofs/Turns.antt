@@ -1,0 +1,126 @@
+-- The turns of the code's loops over a column: what is left to do at place i, in terms of what is left at the next.
+use mathlib.Core.Path.{_≡_, refl, sym, ap, _∙_}
+use mathlib.Core.Bool.{Bool, true, false}
+use mathlib.Core.List.{List, [], _∷_, _++_}
+use Prim.Native.Nat.{ℕ, zero, suc, _+_, _≤_, _<_}
+use native.Mathlib.Omega.{arith}
+use lib.Dec.{ltb}
+use lib.ListN.{length, getD, take, drop, drop-of-length-le, length-append}
+use lib.Seq.{drop-cons, take-suc, take-all}
+use borrow.Author.Tests.{eq-eqb, ne-eqb, lt-ltb, le-ltb}
+use Rattle.places.specs.Sets.{if_then_else_, keep, any, upto, member, has, listed}
+use Rattle.places.specs.Places.{Place, At, Nowhere, find, used, lesser, next, rising, unused}
+use Rattle.places.proofs.Order.{keep-le}
+
+module _ (f : ℕ → Bool) where
+  pub keep-append : (xs ys : List ℕ) → keep f (xs ++ ys) ≡ keep f xs ++ keep f ys
+  unfolding keep
+  keep-append [] ys = refl
+  keep-append (x ∷ xs) ys = go (f x) (keep-append xs ys)
+    where
+      go : (b : Bool) → keep f (xs ++ ys) ≡ keep f xs ++ keep f ys
+          → (if b then x ∷ keep f (xs ++ ys) else keep f (xs ++ ys)) ≡ (if b then x ∷ keep f xs else keep f xs) ++ keep f ys
+      go true e = ap (λ (l : List ℕ). x ∷ l) e
+      go false e = e
+
+-- ---- how many are in use
+
+used-append : (xs ys : List ℕ) → used (xs ++ ys) ≡ used xs + used ys
+unfolding used
+used-append xs ys = ap length (keep-append (λ z. ltb 0 z) xs ys) ∙ length-append (keep (λ z. ltb 0 z) xs) (keep (λ z. ltb 0 z) ys)
+
+pub used-turn : (ids : List ℕ) (i : ℕ) → i < length ids → used (take (suc i) ids) ≡ used (take i ids) + used (getD ids i 0 ∷ [])
+used-turn ids i h = ap used (take-suc ids i 0 h) ∙ used-append (take i ids) (getD ids i 0 ∷ [])
+
+pub used-end : (ids : List ℕ) (i : ℕ) → length ids ≤ i → used (take i ids) ≡ used ids
+used-end ids i h = ap used (take-all i ids h)
+
+pub used-within : (ids : List ℕ) → used ids ≤ length ids
+unfolding used
+used-within ids = keep-le (λ z. ltb 0 z) ids
+
+-- one place
+pub used-none : (x : ℕ) → x ≡ 0 → 0 ≡ used (x ∷ [])
+unfolding used keep
+used-none x e = rw e
+
+pub used-one : (x : ℕ) → (x ≡ 0 → ⊥) → 1 ≡ used (x ∷ [])
+unfolding used keep
+used-one x n = rw (lt-ltb 0 x (omega arith))
+
+-- ---- the least id above another
+
+module _ (low best x : ℕ) where
+  pub next-low : x ≤ low → best ≡ next low best (x ∷ [])
+  unfolding next lesser
+  next-low h = rw (le-ltb low x h)
+
+  pub next-new : low < x → best ≡ 0 → x ≡ next low best (x ∷ [])
+  unfolding next lesser
+  next-new h e = rw (lt-ltb low x h, eq-eqb best 0 e)
+
+  pub next-less : low < x → (best ≡ 0 → ⊥) → x < best → x ≡ next low best (x ∷ [])
+  unfolding next lesser
+  next-less h n l = rw (lt-ltb low x h, ne-eqb best 0 n, lt-ltb x best l)
+
+  pub next-more : low < x → (best ≡ 0 → ⊥) → best ≤ x → best ≡ next low best (x ∷ [])
+  unfolding next lesser
+  next-more h n l = rw (lt-ltb low x h, ne-eqb best 0 n, le-ltb x best l)
+
+module _ (low best : ℕ) (ids : List ℕ) (i : ℕ) where
+  pub next-turn : i < length ids → next low best (drop i ids) ≡ next low (next low best (getD ids i 0 ∷ [])) (drop (suc i) ids)
+  unfolding next
+  next-turn h = rw (drop-cons ids i 0 h)
+
+  pub next-end : length ids ≤ i → next low best (drop i ids) ≡ best
+  unfolding next
+  next-end h = rw (drop-of-length-le ids h)
+
+-- ---- members
+
+module _ (x : ℕ) (ids : List ℕ) (i : ℕ) where
+  pub member-hit : i < length ids → getD ids i 0 ≡ x → member x (drop i ids) ≡ true
+  unfolding member any
+  member-hit h e = rw (drop-cons ids i 0 h) (simp (eq-eqb x (getD ids i 0) (sym e)))
+
+  pub member-miss : i < length ids → (getD ids i 0 ≡ x → ⊥) → member x (drop i ids) ≡ member x (drop (suc i) ids)
+  unfolding member any
+  member-miss h n = rw (drop-cons ids i 0 h) (simp (ne-eqb x (getD ids i 0) (λ q. n (sym q))))
+
+  pub member-end : length ids ≤ i → member x (drop i ids) ≡ false
+  unfolding member any
+  member-end h = rw (drop-of-length-le ids h)
+
+-- ---- a free id
+
+module _ (n : ℕ) (ids : List ℕ) (x : ℕ) where
+  pub unused-here : find ids x ≡ Nowhere → unused (suc n) ids x ≡ x
+  unfolding unused
+  unused-here e = ap (λ (p : Place). elim p as (λ (_ : Place). ℕ) [ Nowhere ↦ x | At i ↦ unused n ids (suc x) ]) e
+
+  pub unused-later : (i : ℕ) → find ids x ≡ At i → unused (suc n) ids x ≡ unused n ids (suc x)
+  unfolding unused
+  unused-later i e = ap (λ (p : Place). elim p as (λ (_ : Place). ℕ) [ Nowhere ↦ x | At j ↦ unused n ids (suc x) ]) e
+
+-- ---- the ids in order
+
+module _ (n low : ℕ) (ids : List ℕ) where
+  pub rising-turn : (x : ℕ) → next low 0 ids ≡ x → 0 < x → rising (suc n) low ids ≡ x ∷ rising n x ids
+  unfolding rising
+  rising-turn zero e h = absurd (omega arith)
+  rising-turn (suc x) e h = ap (λ (y : ℕ). elim y as (λ (_ : ℕ). List ℕ) [ zero ↦ [] | suc z ↦ suc z ∷ rising n (suc z) ids ]) e
+
+  pub rising-end : next low 0 ids ≡ 0 → rising (suc n) low ids ≡ []
+  unfolding rising
+  rising-end e = ap (λ (y : ℕ). elim y as (λ (_ : ℕ). List ℕ) [ zero ↦ [] | suc z ↦ suc z ∷ rising n (suc z) ids ]) e
+
+-- ---- a mask's list
+
+upto-rest : (n : ℕ) (xs ys : List ℕ) → upto n (xs ++ ys) ≡ upto n xs ++ ys
+unfolding upto
+upto-rest zero xs ys = refl
+upto-rest (suc n) xs ys = upto-rest n (n ∷ xs) ys
+
+pub listed-turn : (m i : ℕ) → listed (suc i) m ≡ listed i m ++ keep (has m) (i ∷ [])
+unfolding listed upto
+listed-turn m i = ap (keep (has m)) (upto-rest i [] (i ∷ [])) ∙ keep-append (has m) (upto i []) (i ∷ [])

@@ -1,0 +1,3 @@
+// Masks and columns of ids: what every table of the domain is made of.
+pub mod columns;
+pub mod masks;

@@ -1,0 +1,128 @@
+-- A message to each connection of a mask. Assumes nothing.
+use mathlib.Core.Path.{_≡_, refl, sym, ap, ap₂, _∙_}
+use mathlib.Core.Bool.{Bool, true, false}
+use mathlib.Core.List.{List, [], _∷_, _++_, map, append-nil, append-assoc}
+use Prim.Native.Nat.{ℕ, zero, suc, _+_, _-_, _*_, _≤_, _<_}
+use native.Mathlib.Nat.{add-zero, add-suc, suc-add, zero-add, suc-mul}
+use native.Mathlib.Numerals.{add-one}
+use native.Mathlib.Omega.{arith}
+use lib.ListN.{length, length-append}
+use Rattle.places.specs.Sets.{if_then_else_, keep, each, upto, below, has, listed, links}
+use Rattle.messages.specs.Limits.{message-limit}
+use Rattle.messages.specs.Named.{Message}
+use Rattle.records.specs.Records.{Sent, to, tell, wire, framed, octets, records}
+use Rattle.records.specs.Out.{Puts, guarded, told-to, told}
+use Rattle.records.proofs.Laying.{framed-length, guarded-in, put-none, put-then}
+
+-- k, k + 1, .. k + n - 1
+unfoldable pub run : (k n : ℕ) → List ℕ
+run k zero = []
+run k (suc n) = k ∷ run (suc k) n
+
+run-snoc : (k n : ℕ) (rest : List ℕ) → run k (suc n) ++ rest ≡ run k n ++ ((k + n) ∷ rest)
+unfolding run
+run-snoc k zero rest = rw (add-zero k) refl
+run-snoc k (suc n) rest = ap (λ (l : List ℕ). k ∷ l) (run-snoc (suc k) n rest ∙ rw (suc-add k n, add-suc k n) refl)
+
+upto-run : (n : ℕ) (rest : List ℕ) → upto n rest ≡ run 0 n ++ rest
+unfolding upto run
+upto-run zero rest = refl
+upto-run (suc n) rest = upto-run n (n ∷ rest) ∙ sym (run-snoc 0 n rest ∙ rw (zero-add n) refl)
+
+pub below-run : (n : ℕ) → below n ≡ run 0 n
+below-run n = upto-run n [] ∙ append-nil (run 0 n)
+
+-- ---- a loop over the connections: what is still to come
+abbrev pub telling : (mask : ℕ) (m : List ℕ) (q : ℕ) → List ℕ
+telling mask m q = each (told-to mask m) (run q (16 - q))
+
+module _ (mask : ℕ) (m : List ℕ) where
+  pub telling-all : telling mask m 0 ≡ told mask m
+  unfolding told
+  telling-all = ap (each (told-to mask m)) (sym (below-run 16))
+
+  pub telling-next : (q : ℕ) → q < 16 → telling mask m q ≡ told-to mask m q ++ telling mask m (q + 1)
+  unfolding each run
+  telling-next q h =
+      let e : 16 - q ≡ suc (16 - (q + 1)) = omega arith in
+      rw (e, add-one q) refl
+
+  pub telling-end : (q : ℕ) → 16 ≤ q → telling mask m q ≡ []
+  unfolding each run
+  telling-end q h =
+      let e : 16 - q ≡ 0 = omega arith in
+      rw e refl
+
+  pub told-one : (q : ℕ) → has mask q ≡ true → told-to mask m q ≡ framed m q
+  unfolding told-to
+  told-one q e = rw e refl
+
+  pub told-none : (q : ℕ) → has mask q ≡ false → told-to mask m q ≡ []
+  unfolding told-to
+  told-none q e = rw e refl
+
+  pub told-most : (q : ℕ) → length (told-to mask m q) ≤ length m + 4
+  told-most q = go (has mask q) refl
+    where
+      go : (b : Bool) → has mask q ≡ b → length (told-to mask m q) ≤ length m + 4
+      go true e = omega (arith, ap length (told-one q e), framed-length m q)
+      go false e = omega (arith, ap length (told-none q e))
+
+-- ---- the records of a list
+pub records-append : (rs ts : List Sent) → records (rs ++ ts) ≡ records rs ++ records ts
+unfolding records
+records-append [] ts = refl
+records-append (r ∷ rs) ts = rw (records-append rs ts) (sym (append-assoc (octets r) (records rs) (records ts)))
+
+pub records-none : records [] ≡ []
+unfolding records
+records-none = refl
+
+pub records-one : (q : ℕ) (s : Message) → records (to q s ∷ []) ≡ framed (wire s) q
+unfolding records octets
+records-one q s = append-nil (framed (wire s) q)
+
+-- what is told is the records of the message to the mask's connections
+told-step : (q : ℕ) (s : Message) (b : Bool) (l : List ℕ)
+    → (if b then framed (wire s) q else []) ++ records (map (λ q. to q s) l) ≡ records (map (λ q. to q s) (if b then q ∷ l else l))
+unfolding records octets
+told-step q s true l = refl
+told-step q s false l = refl
+
+told-each : (mask : ℕ) (s : Message) (l : List ℕ) → each (told-to mask (wire s)) l ≡ records (map (λ q. to q s) (keep (has mask) l))
+unfolding each keep told-to
+told-each mask s [] = sym records-none
+told-each mask s (q ∷ l) = ap (λ (r : List ℕ). told-to mask (wire s) q ++ r) (told-each mask s l) ∙ told-step q s (has mask q) (keep (has mask) l)
+
+pub told-is : (mask : ℕ) (s : Message) → told mask (wire s) ≡ records (tell mask s)
+unfolding told tell listed
+told-is mask s = told-each mask s (below links)
+
+-- ---- what a caller knows: a message's octets are put as its records
+module _ {s : List ℕ} {at : ℕ} {t : List ℕ} {n : ℕ} (x : Message) (m : List ℕ) (e : m ≡ wire x) (h : at ≤ 65535) (l : length m ≤ message-limit) where
+  pub put-sent : (q : ℕ) → Puts s at (guarded at m (framed m q)) t n → Puts s at (records (to q x ∷ [])) t n
+  put-sent q p = rw (records-one q x, ← e) (rw (guarded-in at m (framed m q) h l) at p)
+
+  pub put-told : (mask : ℕ) → Puts s at (guarded at m (told mask m)) t n → Puts s at (records (tell mask x)) t n
+  put-told mask p = rw (← told-is mask x, ← e) (rw (guarded-in at m (told mask m) h l) at p)
+
+-- records behind records, and none
+pub put-more : {s : List ℕ} {at : ℕ} (rs : List Sent) {t : List ℕ} {n : ℕ} (ts : List Sent) {u : List ℕ} {k : ℕ}
+    → Puts s at (records rs) t n → Puts t n (records ts) u k → Puts s at (records (rs ++ ts)) u k
+put-more rs ts p q = rw (records-append rs ts) (put-then p q)
+
+pub put-nobody : (s : List ℕ) (at : ℕ) → Puts s at (records []) s at
+put-nobody s at = rw records-none (put-none s at)
+
+-- how many octets they take
+pub sent-length : (q : ℕ) (x : Message) → length (records (to q x ∷ [])) ≡ length (wire x) + 4
+sent-length q x = ap length (records-one q x) ∙ framed-length (wire x) q
+
+telling-length : (mask : ℕ) (m : List ℕ) (k n : ℕ) → length (each (told-to mask m) (run k n)) ≤ n * (length m + 4)
+unfolding each run
+telling-length mask m k zero = omega arith
+telling-length mask m k (suc n) =
+    omega (arith, length-append (told-to mask m k) (each (told-to mask m) (run (suc k) n)), told-most mask m k, telling-length mask m (suc k) n, suc-mul n (length m + 4))
+
+pub told-length : (mask : ℕ) (x : Message) → length (records (tell mask x)) ≤ 16 * (length (wire x) + 4)
+told-length mask x = rw (← told-is mask x, ← telling-all mask (wire x)) (telling-length mask (wire x) 0 16)

@@ -1,0 +1,227 @@
+// The messages that a top provider sends, as their octets: by value where the length is fixed, into a room where there is a list.
+ghost use mathlib.Core.Path.{_≡_};
+ghost use mathlib.Core.List.{_∷_, _++_};
+ghost use mathlib.Core.Option.{none, some};
+ghost use Prim.Native.Nat.{_-_, _/_, _%_, _≤_};
+ghost use lib.ListN.{length, take};
+ghost use Rattle.messages.specs.Limits.{list-limit};
+ghost use Rattle.messages.specs.Named.{successful, AUcf, CJcf, CCcf, CDin, TTcf, TVin, TPin, DUin, CAin, CEin, RJum};
+ghost use Rattle.records.specs.Records.{wire};
+ghost use Rattle.records.specs.Out.{Puts, each-two, listing};
+ghost use Rattle.records.specs.Confirms.{confirm, number};
+use messages::LIST_LIMIT;
+
+pub enum Confirm {
+    Grab,
+    Inhibit,
+    Give,
+    Release,
+}
+
+// The two octets of an id, less the lowest of its kind.
+fn upper(id: u16, low: u16) -> u8
+    ensures { λ r. ⌜ r ≡ (id - low) / 256 ⌝ }
+{
+    let n = crate::less(id, low);
+    (n / 256) as u8
+}
+
+fn lower(id: u16, low: u16) -> u8
+    ensures { λ r. ⌜ r ≡ (id - low) % 256 ⌝ }
+{
+    let n = crate::less(id, low);
+    (n % 256) as u8
+}
+
+fn number_of(kind: Confirm) -> u8
+    ensures { λ r. ⌜ r ≡ number kind ⌝ }
+{
+    match kind {
+        Confirm::Grab => 30,
+        Confirm::Inhibit => 32,
+        Confirm::Give => 36,
+        Confirm::Release => 40,
+    }
+}
+
+// TGcf, TIcf, TVcf, TRcf.
+pub fn token_confirm(kind: Confirm, result: u8, user: u16, token: u16, status: u8) -> [u8; 7]
+    ensures { λ r. ⌜ r ≡ wire (confirm kind result user token status) ⌝ }
+{
+    let first = number_of(kind) * 4 + result / 4;
+    [
+        first,
+        result % 4 * 64,
+        upper(user, 1001),
+        lower(user, 1001),
+        upper(token, 1),
+        lower(token, 1),
+        status % 8 * 32,
+    ]
+}
+
+pub fn test_confirm(user: u16, token: u16, status: u8) -> [u8; 6]
+    ensures { λ r. ⌜ r ≡ wire (TTcf user token status) ⌝ }
+{
+    [
+        168,
+        upper(user, 1001),
+        lower(user, 1001),
+        upper(token, 1),
+        lower(token, 1),
+        status % 8 * 32,
+    ]
+}
+
+pub fn give_indication(giver: u16, token: u16, recipient: u16) -> [u8; 7]
+    ensures { λ r. ⌜ r ≡ wire (TVin giver token recipient) ⌝ }
+{
+    [
+        136,
+        upper(giver, 1001),
+        lower(giver, 1001),
+        upper(token, 1),
+        lower(token, 1),
+        upper(recipient, 1001),
+        lower(recipient, 1001),
+    ]
+}
+
+pub fn please_indication(user: u16, token: u16) -> [u8; 5]
+    ensures { λ r. ⌜ r ≡ wire (TPin user token) ⌝ }
+{
+    [
+        152,
+        upper(user, 1001),
+        lower(user, 1001),
+        upper(token, 1),
+        lower(token, 1),
+    ]
+}
+
+pub fn attach_confirm(user: u16) -> [u8; 4]
+    ensures { λ r. ⌜ r ≡ wire (AUcf successful (some user)) ⌝ }
+{
+    [46, 0, upper(user, 1001), lower(user, 1001)]
+}
+
+pub fn attach_refusal(result: u8) -> [u8; 2]
+    ensures { λ r. ⌜ r ≡ wire (AUcf result none) ⌝ }
+{
+    [44 + result / 8, result % 8 * 32]
+}
+
+pub fn join_confirm(user: u16, asked: u16, channel: u16) -> [u8; 8]
+    ensures { λ r. ⌜ r ≡ wire (CJcf successful user asked (some channel)) ⌝ }
+{
+    [
+        62,
+        0,
+        upper(user, 1001),
+        lower(user, 1001),
+        upper(asked, 0),
+        lower(asked, 0),
+        upper(channel, 0),
+        lower(channel, 0),
+    ]
+}
+
+pub fn join_refusal(result: u8, user: u16, asked: u16) -> [u8; 6]
+    ensures { λ r. ⌜ r ≡ wire (CJcf result user asked none) ⌝ }
+{
+    [
+        60 + result / 8,
+        result % 8 * 32,
+        upper(user, 1001),
+        lower(user, 1001),
+        upper(asked, 0),
+        lower(asked, 0),
+    ]
+}
+
+pub fn convene_confirm(user: u16, channel: u16) -> [u8; 6]
+    ensures { λ r. ⌜ r ≡ wire (CCcf successful user (some channel)) ⌝ }
+{
+    [
+        74,
+        0,
+        upper(user, 1001),
+        lower(user, 1001),
+        upper(channel, 1001),
+        lower(channel, 1001),
+    ]
+}
+
+pub fn convene_refusal(result: u8, user: u16) -> [u8; 4]
+    ensures { λ r. ⌜ r ≡ wire (CCcf result user none) ⌝ }
+{
+    [
+        72 + result / 8,
+        result % 8 * 32,
+        upper(user, 1001),
+        lower(user, 1001),
+    ]
+}
+
+pub fn disband_indication(channel: u16) -> [u8; 3]
+    ensures { λ r. ⌜ r ≡ wire (CDin channel) ⌝ }
+{
+    [80, upper(channel, 1001), lower(channel, 1001)]
+}
+
+// A head, and behind it the list of users.
+fn lay_list(s: &mut [u8], head: &[u8], ids: &[u16]) -> usize
+    requires { ⌜ (length (now head) ≤ 5) × (length (now ids) ≤ list-limit) ⌝ }
+    ensures { λ r. ⌜ Puts (now (s .entry)) 0 (now (head .entry) ++ length (now (ids .entry)) ∷ each-two 1001 (now (ids .entry))) (now (s .exit)) r ⌝ }
+{
+    let count = [ids.len() as u8];
+    let at = crate::lay(s, 0, head);
+    let from = crate::lay(s, at, &count);
+    crate::lay_ids(s, from, 1001, ids)
+}
+
+pub fn detach_indication(s: &mut [u8], reason: u8, ids: &[u16]) -> usize
+    ensures { λ r. ⌜ Puts (now (s .entry)) 0 (listing (now (ids .entry)) (wire (DUin reason (now (ids .entry))))) (now (s .exit)) r ⌝ }
+{
+    if ids.len() <= LIST_LIMIT {
+        let head = [52 + reason / 2, reason % 2 * 128];
+        return lay_list(s, &head, ids);
+    }
+    0
+}
+
+pub fn admit_indication(s: &mut [u8], manager: u16, channel: u16, ids: &[u16]) -> usize
+    ensures { λ r. ⌜ Puts (now (s .entry)) 0 (listing (now (ids .entry)) (wire (CAin manager channel (now (ids .entry))))) (now (s .exit)) r ⌝ }
+{
+    if ids.len() <= LIST_LIMIT {
+        let head = [
+            88,
+            upper(manager, 1001),
+            lower(manager, 1001),
+            upper(channel, 1001),
+            lower(channel, 1001),
+        ];
+        return lay_list(s, &head, ids);
+    }
+    0
+}
+
+pub fn expel_indication(s: &mut [u8], channel: u16, ids: &[u16]) -> usize
+    ensures { λ r. ⌜ Puts (now (s .entry)) 0 (listing (now (ids .entry)) (wire (CEin channel (now (ids .entry))))) (now (s .exit)) r ⌝ }
+{
+    if ids.len() <= LIST_LIMIT {
+        let head = [96, upper(channel, 1001), lower(channel, 1001)];
+        return lay_list(s, &head, ids);
+    }
+    0
+}
+
+// RJum carries the message's first 16 octets, or all if fewer.
+pub fn reject(s: &mut [u8], diagnostic: u8, m: &[u8]) -> usize
+    ensures { λ r. ⌜ Puts (now (s .entry)) 0 (wire (RJum diagnostic (take 16 (now (m .entry))))) (now (s .exit)) r ⌝ }
+{
+    let n = crate::least_of(16, m.len());
+    let head = [36 + diagnostic / 4, diagnostic % 4 * 64, n as u8];
+    let at = crate::lay(s, 0, &head);
+    crate::lay(s, at, &m[..n])
+}

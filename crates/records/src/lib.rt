@@ -1,0 +1,169 @@
+// Records into an answer's room. A put counts always and writes where there is room: so a run over a room of no octets tells the size.
+pub mod compose;
+
+ghost use mathlib.Core.Path.{_≡_};
+ghost use Prim.Native.Nat.{_-_, _≤_, min};
+ghost use lib.ListN.{length, set};
+ghost use Rattle.messages.specs.Limits.{message-limit};
+ghost use Rattle.records.specs.Records.{two, framed};
+ghost use Rattle.records.specs.Out.{Puts, allowed as allowedAt, guarded, each-two, told-to, told};
+use messages::MESSAGE_LIMIT;
+
+// An octet, where there is room for it.
+fn put(s: &mut [u8], at: usize, b: u8)
+    ensures { λ _. ⌜ now (s .exit) ≡ set (now (s .entry)) at b ⌝ }
+{
+    if at < s.len() {
+        s[at] = b;
+    }
+}
+
+// Octets one behind the other.
+fn lay(s: &mut [u8], at: usize, os: &[u8]) -> usize
+    requires { ⌜ (at ≤ 100000) × (length (now os) ≤ message-limit) ⌝ }
+    ensures { λ r. ⌜ Puts (now (s .entry)) at (now (os .entry)) (now (s .exit)) r ⌝ }
+{
+    let mut i = 0;
+    while i < os.len() {
+        put(s, at + i, os[i]);
+        i += 1;
+    }
+    at + i
+}
+
+// So many octets, or ids, may be put at this place.
+fn allowed(at: usize, count: usize) -> bool
+    ensures { λ r. ⌜ r ≡ allowedAt at count ⌝ }
+{
+    if at <= 65535 {
+        return count <= MESSAGE_LIMIT;
+    }
+    false
+}
+
+pub fn put_all(s: &mut [u8], at: usize, os: &[u8]) -> usize
+    ensures { λ r. ⌜ Puts (now (s .entry)) at (guarded at (now (os .entry)) (now (os .entry))) (now (s .exit)) r ⌝ }
+{
+    if allowed(at, os.len()) {
+        return lay(s, at, os);
+    }
+    at
+}
+
+pub fn put_two(s: &mut [u8], at: usize, n: u16) -> usize
+    ensures { λ r. ⌜ Puts (now (s .entry)) at (guarded at (two n) (two n)) (now (s .exit)) r ⌝ }
+{
+    let os = [(n / 256) as u8, (n % 256) as u8];
+    put_all(s, at, &os)
+}
+
+// A number less the lowest of its kind.
+fn less(n: u16, low: u16) -> u16
+    ensures { λ r. ⌜ r ≡ n - low ⌝ }
+{
+    if n < low { 0 } else { n - low }
+}
+
+// An id on two octets.
+fn lay_id(s: &mut [u8], at: usize, low: u16, id: u16) -> usize
+    requires { ⌜ at ≤ 100000 ⌝ }
+    ensures { λ r. ⌜ Puts (now (s .entry)) at (two (id - low)) (now (s .exit)) r ⌝ }
+{
+    let n = less(id, low);
+    let os = [(n / 256) as u8, (n % 256) as u8];
+    lay(s, at, &os)
+}
+
+// The ids of a list on two octets each.
+fn lay_ids(s: &mut [u8], from: usize, low: u16, ids: &[u16]) -> usize
+    requires { ⌜ (from ≤ 65535) × (length (now ids) ≤ message-limit) ⌝ }
+    ensures { λ r. ⌜ Puts (now (s .entry)) from (each-two low (now (ids .entry))) (now (s .exit)) r ⌝ }
+{
+    let mut at = from;
+    let mut i = 0;
+    while i < ids.len() {
+        at = lay_id(s, at, low, ids[i]);
+        i += 1;
+    }
+    at
+}
+
+pub fn put_ids(s: &mut [u8], at: usize, low: u16, ids: &[u16]) -> usize
+    ensures { λ r. ⌜ Puts (now (s .entry)) at (guarded at (now (ids .entry)) (each-two low (now (ids .entry)))) (now (s .exit)) r ⌝ }
+{
+    if allowed(at, ids.len()) {
+        return lay_ids(s, at, low, ids);
+    }
+    at
+}
+
+// A record at the start of the room: what follows in two octets, version 1, connection, message.
+pub fn put_record(s: &mut [u8], q: u8, m: &[u8]) -> usize
+    ensures { λ r. ⌜ Puts (now (s .entry)) 0 (guarded 0 (now (m .entry)) (framed (now (m .entry)) q)) (now (s .exit)) r ⌝ }
+{
+    if allowed(0, m.len()) {
+        let n = m.len() + 2;
+        let high = (n / 256) as u8;
+        let head = [high, (n % 256) as u8, 1, q];
+        let at = lay(s, 0, &head);
+        return lay(s, at, m);
+    }
+    0
+}
+
+fn least_of(a: usize, b: usize) -> usize
+    ensures { λ r. ⌜ r ≡ min a b ⌝ }
+{
+    if a < b { a } else { b }
+}
+
+// A record into the part of the room behind a place, which may lie behind its end.
+fn lay_record(out: &mut [u8], at: usize, q: u8, m: &[u8]) -> usize
+    requires { ⌜ (at ≤ 100000) × (length (now m) ≤ message-limit) ⌝ }
+    ensures { λ r. ⌜ Puts (now (out .entry)) at (framed (now (m .entry)) q) (now (out .exit)) r ⌝ }
+{
+    let from = least_of(at, out.len());
+    at + put_record(&mut out[from..], q, m)
+}
+
+pub fn send(out: &mut [u8], at: usize, q: u8, m: &[u8]) -> usize
+    ensures { λ r. ⌜ Puts (now (out .entry)) at (guarded at (now (m .entry)) (framed (now (m .entry)) q)) (now (out .exit)) r ⌝ }
+{
+    if allowed(at, m.len()) {
+        return lay_record(out, at, q, m);
+    }
+    at
+}
+
+fn tell_one(out: &mut [u8], at: usize, mask: u16, q: u8, m: &[u8]) -> usize
+    requires { ⌜ (at ≤ 100000) × (length (now m) ≤ message-limit) ⌝ }
+    ensures { λ r. ⌜ Puts (now (out .entry)) at (told-to mask (now (m .entry)) q) (now (out .exit)) r ⌝ }
+{
+    if places::masks::has(mask as u64, q) {
+        return lay_record(out, at, q, m);
+    }
+    at
+}
+
+// A message to each connection of a mask, ascending.
+fn tell_all(out: &mut [u8], from: usize, mask: u16, m: &[u8]) -> usize
+    requires { ⌜ (from ≤ 65535) × (length (now m) ≤ message-limit) ⌝ }
+    ensures { λ r. ⌜ Puts (now (out .entry)) from (told mask (now (m .entry))) (now (out .exit)) r ⌝ }
+{
+    let mut at = from;
+    let mut q: u8 = 0;
+    while q < 16 {
+        at = tell_one(out, at, mask, q, m);
+        q += 1;
+    }
+    at
+}
+
+pub fn tell(out: &mut [u8], at: usize, mask: u16, m: &[u8]) -> usize
+    ensures { λ r. ⌜ Puts (now (out .entry)) at (guarded at (now (m .entry)) (told mask (now (m .entry)))) (now (out .exit)) r ⌝ }
+{
+    if allowed(at, m.len()) {
+        return tell_all(out, at, mask, m);
+    }
+    at
+}

@@ -1,0 +1,92 @@
+-- Users: who is attached where, and the connections of a set of users.
+use mathlib.Core.Path.{_≡_, refl, sym, ap, ap₂, _∙_}
+use mathlib.Core.Bool.{Bool, true, false, _&&_, _||_, or-false}
+use mathlib.Core.List.{List, [], _∷_}
+use Prim.Native.Nat.{ℕ, zero, suc, _^_, _≤_, _<_, zero-le}
+use native.Mathlib.Omega.{arith}
+use lib.Dec.{eqb}
+use lib.ListN.{length, getD}
+use borrow.Author.Tests.{eq-eqb, ne-eqb}
+use Rattle.places.specs.Sets.{if_then_else_, any, upto, below, has, with, links, seats}
+use Rattle.places.specs.Places.{Place, At, Nowhere, find, number}
+use Rattle.places.proofs.Rows.{getD-any}
+use Rattle.places.proofs.Digits.{has-high, has-with, is-those, those-lt}
+use Rattle.domain.specs.Tables.{Users, users-of, link, attached, hosts}
+
+-- ---- attached on p
+
+at-of : Users → ℕ → Place → Place
+at-of us p w = elim w [ At i ↦ if eqb (link us i) p then At i else Nowhere | Nowhere ↦ Nowhere ]
+
+pub link-is : (names homes : List ℕ) (i : ℕ) → i < length homes → link (users-of names homes) i ≡ getD homes i 0
+unfolding link
+link-is names homes i h = getD-any homes i links 0 h
+
+module _ (names homes : List ℕ) (p u i : ℕ) where
+  pub attached-here : find names u ≡ At i → i < length homes → getD homes i 0 ≡ p → number 64 (attached (users-of names homes) p u) ≡ i
+  unfolding attached number at-of
+  attached-here e h q = ap (λ (w : Place). number 64 (at-of (users-of names homes) p w)) e ∙ rw (link-is names homes i h, eq-eqb (getD homes i 0) p q) refl
+
+  pub attached-elsewhere : find names u ≡ At i → i < length homes → (getD homes i 0 ≡ p → ⊥) → number 64 (attached (users-of names homes) p u) ≡ 64
+  unfolding attached number at-of
+  attached-elsewhere e h q = ap (λ (w : Place). number 64 (at-of (users-of names homes) p w)) e ∙ rw (link-is names homes i h, ne-eqb (getD homes i 0) p q) refl
+
+  pub attached-nowhere : find names u ≡ Nowhere → number 64 (attached (users-of names homes) p u) ≡ 64
+  unfolding attached number at-of
+  attached-nowhere e = ap (λ (w : Place). number 64 (at-of (users-of names homes) p w)) e
+
+-- ---- the connections of a set of users
+
+-- one more number below n
+any-last : (f : ℕ → Bool) (n : ℕ) (rest : List ℕ) → any f (upto n rest) ≡ (any f (below n) || any f rest)
+unfolding any upto
+any-last f zero rest = refl
+any-last f (suc n) rest = any-last f n (n ∷ rest) ∙ three (any f (below n)) (f n) (any f rest) ∙ ap (λ (b : Bool). b || any f rest) (sym (any-last f n (n ∷ [])))
+  where
+    three : (a b c : Bool) → (a || (b || c)) ≡ ((a || (b || false)) || c)
+    three true b c = refl
+    three false true c = refl
+    three false false c = refl
+
+any-next : (f : ℕ → Bool) (n : ℕ) → any f (below (suc n)) ≡ (any f (below n) || f n)
+unfolding any upto
+any-next f n = any-last f n (n ∷ []) ∙ ap (λ (b : Bool). any f (below n) || b) (or-false (f n))
+
+with-lt : (w m k : ℕ) → with w m k < 2 ^ w
+unfolding with
+with-lt w m k = those-lt w _
+
+-- user i is of the set, on connection q
+abbrev pub hosted : (us : Users) (who q i : ℕ) → Bool
+hosted us who q i = has who i && eqb (link us i) q
+
+-- a loop over the users: m is the mask of the connections of those before i
+pub record Hosting (us : Users) (who m i : ℕ) : Type 0 where
+  pub small : m < 2 ^ links
+  pub has-are : (q : ℕ) → q < links → has m q ≡ any (hosted us who q) (below i)
+
+pub hosting-start : (us : Users) (who : ℕ) → Hosting us who 0 0
+unfolding any upto
+hosting-start us who = record { small = omega arith; has-are = λ q h. has-high 0 0 q (omega arith) zero-le }
+
+module _ (us : Users) (who m i : ℕ) (s : Hosting us who m i) where
+  pub hosting-step : Hosting us who (if has who i then with links m (link us i) else m) (suc i)
+  hosting-step = go (has who i) refl
+    where
+      go : (b : Bool) → has who i ≡ b → Hosting us who (if b then with links m (link us i) else m) (suc i)
+      go true e = record {
+        small = with-lt links m (link us i);
+        has-are = λ q h.
+            has-with links (link us i) q h m ∙ ap (λ (b : Bool). b || eqb (link us i) q) (s .has-are q h)
+            ∙ sym (any-next (hosted us who q) i ∙ ap (λ (b : Bool). any (hosted us who q) (below i) || (b && eqb (link us i) q)) e);
+      }
+      go false e = record {
+        small = s .small;
+        has-are = λ q h.
+            s .has-are q h
+            ∙ sym (any-next (hosted us who q) i ∙ ap (λ (b : Bool). any (hosted us who q) (below i) || (b && eqb (link us i) q)) e ∙ or-false (any (hosted us who q) (below i)));
+      }
+
+  pub hosting-end : i ≡ seats → m ≡ hosts us who
+  unfolding hosts
+  hosting-end e = is-those links m _ (s .small) (λ q h. s .has-are q h ∙ ap (λ (n : ℕ). any (hosted us who q) (below n)) e)

@@ -1,0 +1,56 @@
+// Users: the id and the connection of each place.
+ghost use mathlib.Core.Path.{_≡_};
+ghost use Prim.Native.Nat.{_≤_};
+ghost use Rattle.places.specs.Places.{number};
+ghost use Rattle.places.specs.Sets.{if_then_else_, with, links};
+ghost use Rattle.domain.specs.Tables.{users-of, attached as attachedIn, add-user, hosts as hostsOf};
+
+// The place of user u, where u is attached on p; 64 is nowhere.
+pub fn attached(names: &[u16; 64], homes: &[u8; 64], p: u8, u: u16) -> usize
+    ensures { λ r. ⌜ (r ≡ number 64 (attachedIn (users-of (now (names .entry)) (now (homes .entry))) p u)) × (r ≤ 64) ⌝ }
+{
+    let i = places::columns::find(names, u);
+    let at = &homes[..];
+    if i < at.len() {
+        if at[i] == p {
+            return i;
+        }
+    }
+    64
+}
+
+// User u, attached on p, at the spare place; where there is none nothing changes.
+pub fn add_user(names: &mut [u16; 64], homes: &mut [u8; 64], u: u16, p: u8)
+    ensures { λ _. ⌜ users-of (now (names .exit)) (now (homes .exit)) ≡ add-user (users-of (now (names .entry)) (now (homes .entry))) u p ⌝ }
+{
+    let i = places::columns::spare(names);
+    if i < 64 {
+        names[i] = u;
+        homes[i] = p;
+    }
+}
+
+// The connections that have a user of a mask of places.
+pub fn hosts(names: &[u16; 64], homes: &[u8; 64], who: u64) -> u16
+    ensures { λ r. ⌜ r ≡ hostsOf (users-of (now (names .entry)) (now (homes .entry))) who ⌝ }
+{
+    let at = &homes[..];
+    let mut m: u16 = 0;
+    let mut i: u8 = 0;
+    while i < 64 {
+        let j = i as usize;
+        m = host(m, places::masks::has(who, i), at[j]);
+        i += 1;
+    }
+    m
+}
+
+// A mask with the connection of one user more, where it counts.
+fn host(m: u16, counts: bool, home: u8) -> u16
+    ensures { λ r. ⌜ r ≡ (if counts then with links m home else m) ⌝ }
+{
+    if counts {
+        return places::masks::with_link(m, home);
+    }
+    m
+}
