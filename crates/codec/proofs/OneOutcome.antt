@@ -1,10 +1,10 @@
 -- Two outcomes that a promise of the codec allows are equal. Assumes nothing.
 use mathlib.Core.Path.{_≡_, sym, ap, _∙_}
 use mathlib.Core.List.{List}
-use Prim.Native.Nat.{ℕ, _+_, _-_, _*_, _/_, _%_, _<_, _≤_}
+use Prim.Native.Nat.{ℕ, _+_, _*_, _/_, _≤_}
 use native.Mathlib.Omega.{arith}
 use lib.ListN.{length, drop, length-drop}
-use Rattle.octets.specs.Octets.{Read, got, no}
+use Rattle.octets.specs.Octets.{Read, got}
 use Rattle.octets.specs.Places.{leftAt, bitsAt, behind, atOctet, atBit, EndsAt, Leaves, Octetwise, Bitwise}
 use Rattle.octets.specs.declared.Got.{Got}
 use Rattle.octets.specs.declared.Got.the-variants.{Value, No}

@@ -1,4 +1,4 @@
--- The line card's question: the message's number, or 64 plus the codec's refusal.
+-- "The line card's C program asks one question of an octet slice: its message number, or 64 plus the codec's refusal."
 use Prim.Native.Nat.{ℕ, _+_}
 use Rattle.messages.specs.Codec.{Msg, Outcome, ok, refuse}
 

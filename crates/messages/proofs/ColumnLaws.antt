@@ -3,17 +3,17 @@
 use mathlib.Core.Path.{_≡_, refl, sym, ap, _∙_}
 use mathlib.Core.Bool.{Bool, true, false, cond, _&&_, not}
 use mathlib.Core.List.{List, [], _∷_, _++_, map}
-use Prim.Native.Nat.{ℕ, zero, suc, _+_, _*_, _/_, _%_, _^_, _<_, _≤_}
+use Prim.Native.Nat.{ℕ, zero, suc, _+_, _<_, _≤_}
 use native.Mathlib.Nat.{add-zero, add-suc, suc-add, zero-add}
 use native.Mathlib.Omega.{arith}
 use lib.ListN.{length, getD, take, length-map, List·getD-map, List·getD-eq-default}
 use lib.Seq.{getD-take, length-take-le}
 use lib.Dec.{leb, ltb, eqb}
 use borrow.Author.Tests.{eq-eqb, leb-true, ltb-true, ltb-false}
-use Rattle.octets.specs.Octets.{aNumber, Tail, nothing}
+use Rattle.octets.specs.Octets.{aNumber, nothing}
 use Rattle.octets.proofs.OctetLaws.{both-left, both-right}
-use Rattle.messages.specs.Messages.{Field, item, result, diagnostic, reason, status, channel, user, token, height, Row, unknown, Way, down, table, entry, row, may-go-up, is-served, is-covered}
-use Rattle.messages.specs.Columns.{packed, packedAt, digit, wayAt, formAt, tailAt, countAt, kindsAt, kindAt, wayOf, fieldOf, tailOf, fieldsOf, lastField, rowFrom}
+use Rattle.messages.specs.Messages.{item, result, diagnostic, reason, status, channel, user, token, height, Row, unknown, Way, down, table, entry, row, may-go-up, is-served, is-covered}
+use Rattle.messages.specs.Columns.{packed, packedAt, wayAt, formAt, tailAt, countAt, kindsAt, kindAt, wayOf, fieldOf, tailOf, fieldsOf, lastField, rowFrom}
 
 -- a test over the numbers from 0 on
 range : ℕ → ℕ → List ℕ

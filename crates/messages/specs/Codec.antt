@@ -2,7 +2,7 @@
 -- reader is handed both. Where a part starts on an octet, the bits left are 0.
 use mathlib.Core.Bool.{Bool, true, false, cond, _&&_}
 use mathlib.Core.List.{List, [], _∷_, _++_}
-use Prim.Native.Nat.{ℕ, zero, suc, _+_, _-_, _*_, _/_, _%_, _^_}
+use Prim.Native.Nat.{ℕ}
 use lib.ListN.{length}
 use lib.Dec.{leb, ltb, eqb}
 use Rattle.octets.specs.Octets.{Read, got, no, Reader, _>>=_, give, fail, need, fitsItem, writeItem, readItem, Tail, nothing, fitsTail, writeTail, readTail}
@@ -10,6 +10,7 @@ use Rattle.messages.specs.Limits.{message-limit}
 use Rattle.messages.specs.Messages.{Field, code, item, Row, plain, optional, uncovered, unknown, kind, presence, row, covers}
 use Rattle.octets.specs.Bits.{after, putBits, takeBits}
 
+-- a field: the bits left behind it, what fits it, how it is written and read. "Bits skipped and at the end are 0."
 abbrev pub leftAfter : Field → ℕ → ℕ
 leftAfter (code width most) left = after width left
 leftAfter (item i) left = 0
@@ -71,7 +72,7 @@ fitsRow (optional fs f) vs items = fitsBody (chosen (ltb (length fs) (length vs)
 fitsRow uncovered vs items = false
 fitsRow unknown vs items = false
 
--- behind the number, 2 bits of the first octet are left; a bit for an OPTIONAL field comes first
+-- "The first 6 bits are the number"; "One bit for each OPTIONAL, before the fields"
 abbrev pub putRow : Row → List ℕ → List ℕ → ℕ × List ℕ
 putRow (plain fs t) vs items = putBody fs t 2 vs items
 putRow (optional fs f) vs items =
@@ -102,16 +103,19 @@ ending (got a []) = ok a
 ending (got a (o ∷ os)) = refuse 5
 ending (no n) = refuse n
 
--- 1 to 1,024 octets
+-- "4: message of 0 octets or above 1,024"
 abbrev pub sized : List ℕ → Bool
 sized os = ltb 0 (length os) && leb (length os) message-limit
 
+-- 4; then by number, 5 where there is no such message and 7 where it is not covered; "then 5 or 8, whichever the reading from the left meets first"
 unfoldable pub decode : List ℕ → Outcome Msg
 decode os = cond (sized os) (ending (readMsg os)) (refuse 4)
 
+-- what the writer takes
 abbrev pub within : Msg → Bool
 within m = fitsRow (row (m .number)) (m .values) (m .items) && sized (octetsOfMsg m)
 
+-- "The writer gives 7 for an uncovered message, 8 for a field out of range or a list above 64, 4 for a message above 1,024 octets", in this order
 unfoldable pub encode : Msg → Outcome (List ℕ)
 encode m =
     cond (covers (row (m .number)))

@@ -61,6 +61,7 @@ const MESSAGES: [u32; 43] = [
     0x73653000, // 42 TTcf
 ];
 
+// The digits of a number's line; of 43 up, those of no message.
 fn entry_of(number: u32) -> u32
     ensures { λ r. ⌜ r ≡ packedAt number ⌝ }
 {

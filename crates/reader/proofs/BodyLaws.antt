@@ -1,23 +1,21 @@
 -- A message: what `decode_body`, `decode_row` and `decode` answer. Assumes nothing.
 use mathlib.Core.Path.{_≡_, refl, subst, sym, ap, _∙_}
 use mathlib.Core.Bool.{Bool, true, false, cond}
-use mathlib.Core.List.{List, [], _∷_, _++_}
-use Prim.Native.Nat.{ℕ, zero, suc, _+_, _-_, _*_, _/_, _%_, _^_, _<_, _≤_}
+use mathlib.Core.List.{List, []}
+use Prim.Native.Nat.{ℕ, _+_, _-_, _/_}
 use native.Mathlib.Omega.{arith}
-use lib.ListN.{length, getD, take, drop, drop-of-length-le}
+use lib.ListN.{length, take, drop, drop-of-length-le}
 use lib.Seq.{drop-cons}
 use lib.Dec.{eqb}
 use borrow.Author.Tests.{eq-eqb, ne-eqb}
 use Rattle.messages.specs.Limits.{list-limit}
 use Rattle.octets.specs.Octets.{Reader, follow, need, give, Tail, readTail}
-use Rattle.messages.specs.Messages.{row}
-use Rattle.messages.specs.Codec.{Msg, Outcome, ok, refuse, ending}
+use Rattle.messages.specs.Codec.{ok, refuse, ending}
 use Rattle.octets.specs.Places.{bitsAt, behind}
 use Rattle.reader.specs.Reading.{atFields, TakesFields, itemsOf, atItems, ReadsItems, message, bodyAt}
 use Rattle.messages.specs.Columns.{tailAt, fieldsOf, tailOf}
 use Rattle.reader.specs.declared.Fields.{Fields}
 use Rattle.reader.specs.declared.Items.{Items}
-use Rattle.reader.specs.declared.Decoded.{Decoded}
 use Rattle.reader.specs.Held.{padded, isString, decoded}
 use Rattle.reader.proofs.HeldLaws.{by-fields}
 

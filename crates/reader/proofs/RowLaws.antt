@@ -1,8 +1,7 @@
 -- A message by its number: what `decode_row` and `decode` answer. Assumes nothing.
 use mathlib.Core.Path.{_≡_, sym, ap, _∙_, subst}
-use mathlib.Core.Bool.{_&&_}
-use mathlib.Core.List.{List, [], _∷_, _++_}
-use Prim.Native.Nat.{ℕ, zero, suc, _+_, _-_, _*_, _/_, _%_, _^_, _<_, _≤_}
+use mathlib.Core.List.{List}
+use Prim.Native.Nat.{ℕ, _+_, _<_, _≤_}
 use native.Mathlib.Nat.{mod-one}
 use native.Mathlib.Omega.{arith}
 use lib.ListN.{length, getD}
@@ -15,7 +14,6 @@ use Rattle.messages.specs.Codec.{takeField, takeBody, takeRow, chosen, Msg, Out
 use Rattle.octets.specs.Places.{leftAt, bitsAt, behind, atBit}
 use Rattle.reader.specs.Reading.{TakesField, message, bodyAt, rowAt}
 use Rattle.messages.specs.Columns.{formAt, countAt, tailAt, fieldsOf, tailOf, lastField, rowFrom}
-use Rattle.reader.specs.declared.Decoded.{Decoded}
 use Rattle.octets.specs.declared.Got.{Got}
 use Rattle.octets.specs.declared.Got.the-variants.{Value, No}
 use Rattle.messages.proofs.ColumnLaws.{row-from, one-more, no-tail}

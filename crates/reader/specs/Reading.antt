@@ -1,19 +1,18 @@
 -- What the functions of src/ answer, as what the readers of Octets and Codec give at a place in a message's octets.
 use mathlib.Core.Path.{_≡_}
 use mathlib.Core.Bool.{Bool, true, false, cond}
-use mathlib.Core.List.{List, [], _∷_, _++_}
-use Prim.Native.Nat.{ℕ, _+_, _-_, _*_, _/_, _%_, _^_, _≤_, _<_}
+use mathlib.Core.List.{List, []}
+use Prim.Native.Nat.{ℕ, _-_, _*_, _≤_}
 use lib.Dec.{leb}
-use lib.ListN.{length, getD, take, drop}
+use lib.ListN.{length, take, drop}
 use Rattle.messages.specs.Limits.{list-limit}
 use Rattle.octets.specs.Octets.{Read, got, no, Reader, follow, give, need, readItems, Tail, nothing, list}
 use Rattle.messages.specs.Messages.{Field, row}
-use Rattle.messages.specs.Codec.{leftAfter, takeField, takeFields, takeBody, takeRow, Msg, Outcome, ok, refuse, ending, decode}
+use Rattle.messages.specs.Codec.{leftAfter, takeField, takeFields, takeBody, takeRow, Msg, Outcome, ok, ending, decode}
 use Rattle.reader.specs.declared.Fields.{Fields}
 use Rattle.reader.specs.declared.Items.{Items}
 use Rattle.reader.specs.Held.{padded}
 use Rattle.octets.specs.declared.Got.{Got}
-use Rattle.octets.specs.declared.Got.the-variants.{Value, No}
 use Rattle.octets.specs.Places.{leftAt, bitsAt, behind, Bitwise}
 use Rattle.messages.specs.Columns.{tailAt, fieldsOf, tailOf}
 

@@ -188,6 +188,7 @@ pub struct Items {
     pub ids: [u16; LIST_LIMIT],
 }
 
+// Nothing read, and why.
 fn no_items(n: u8) -> Items
     ensures { λ r. ⌜ (r .ok ≡ false) × (r .refusal ≡ n) × (r .next ≡ 0) ⌝ }
 {
@@ -274,6 +275,7 @@ fn read_list(s: &[u8], from: usize, kind: u8, n: u32) -> Items
     }
 }
 
+// What follows the fields, by its kind in the table of messages.
 fn read_tail(s: &[u8], from: usize, kind: u8) -> Items
     requires { ⌜ (from ≤ length (now s)) × (length (now s) ≤ message-limit) ⌝ }
     ensures { λ r. ⌜ ReadsItems (now (s .entry)) (eqb kind 3) r (readTail (tailOf kind) (drop from (now (s .entry)))) ⌝ }
@@ -440,25 +442,27 @@ fn left_behind(s: &[u8], at: usize) -> usize
     }
 }
 
-// A reader remembers the message and the bit that it has reached. It is made at the first bit; it reads a field there; it moves on; it says
-// how many whole octets are left.
+// A reader remembers the message and the bit that it has reached.
 pub struct Reader<'a> {
     pub octets: &'a [u8],
     pub bit: usize,
 }
 
+// A reader at the first bit.
 pub fn start<'a>(octets: &'a [u8]) -> Reader<'a>
     ensures { λ r. ⌜ (r .octets ≡ octets .entry) × (r .bit ≡ 0) ⌝ }
 {
     Reader { octets, bit: 0 }
 }
 
+// The field at the bit reached.
 pub fn field<'a>(r: Reader<'a>, kind: u8) -> Got
     ensures { λ g. ⌜ FieldAt (now (r .entry .octets)) (r .entry .bit) (fieldOf kind) g ⌝ }
 {
     field_at(r.octets, r.bit, kind)
 }
 
+// The same message, at another bit.
 pub fn moved<'a>(r: Reader<'a>, bit: usize) -> Reader<'a>
     ensures { λ q. ⌜ (q .octets ≡ r .entry .octets) × (q .bit ≡ bit) ⌝ }
 {
@@ -468,6 +472,7 @@ pub fn moved<'a>(r: Reader<'a>, bit: usize) -> Reader<'a>
     }
 }
 
+// The octets that no bit before the one reached is in.
 pub fn octets_left<'a>(r: Reader<'a>) -> usize
     ensures { λ n. ⌜ n ≡ length (behind (now (r .entry .octets)) (r .entry .bit)) ⌝ }
 {
@@ -480,6 +485,7 @@ pub struct Step {
     pub bit: usize,
 }
 
+// A field at a bit, and the bit then reached.
 fn step_at(s: &[u8], at: usize, kind: u8) -> Step
     ensures { λ r. ⌜ Steps (now (s .entry)) at (fieldOf kind) r ⌝ }
 {

@@ -2,7 +2,7 @@
 use mathlib.Core.Path.{_≡_, refl, sym, ap, _∙_}
 use mathlib.Core.Bool.{Bool, true, false, _&&_, not}
 use mathlib.Core.List.{List, [], _∷_, _++_, append-assoc, append-nil}
-use Prim.Native.Nat.{ℕ, zero, suc, _+_, _-_, _*_, _/_, _%_, _^_, _<_, _≤_}
+use Prim.Native.Nat.{ℕ, suc, _+_, _*_, _<_, _≤_}
 use native.Mathlib.Numerals.{add-one}
 use native.Mathlib.Nat.{zero-mul, mul-le-mul-left}
 use native.Mathlib.Omega.{arith}
@@ -14,7 +14,6 @@ use Rattle.octets.specs.Octets.{lengthOctets, fitsItem, writeItem, fitsItems, w
 use Rattle.octets.proofs.OctetLaws.{both-left, both-right}
 use Rattle.messages.specs.Columns.{tailOf}
 use Rattle.writer.specs.Writing.{Lays, tailUpto, itemOf, limitOf, widthOf}
-use Rattle.writer.specs.declared.Wrote.{Wrote}
 use Rattle.writer.specs.declared.Wrote.the-variants.{Upto, Not}
 
 pub tail-none : (k : ℕ) → k ≡ 0 → tailOf k ≡ nothing

@@ -2,9 +2,9 @@
 use mathlib.Core.Path.{_≡_}
 use mathlib.Core.Bool.{Bool, true, false, cond, _&&_}
 use mathlib.Core.List.{List, [], _∷_, _++_}
-use Prim.Native.Nat.{ℕ, _+_, _-_, _*_, _/_, _%_, _^_, _≤_, _<_}
+use Prim.Native.Nat.{ℕ, _+_, _*_, _/_, _^_, _≤_, _<_}
 use lib.Dec.{eqb, leb}
-use lib.ListN.{length, getD, take, drop}
+use lib.ListN.{length, take, drop}
 use Rattle.messages.specs.Limits.{list-limit, string-limit, message-limit}
 use Rattle.octets.specs.Octets.{Item, anOctet, anId, writeItem, Tail, fitsTail, writeTail}
 use Rattle.messages.specs.Messages.{Field, code, item}
@@ -96,7 +96,7 @@ abbrev pub extent : Outcome (List ℕ) → Wrote
 extent (ok os) = Upto (length os)
 extent (refuse n) = Not n
 
--- the answer and the room behind it: the octets and what was behind them; or a refusal, with the room untouched
+-- the answer and the room behind it: the octets and what was behind them; or a refusal, 9 "for too little room", "with the room untouched"
 abbrev pub pickRoom : Bool → Wrote × List ℕ → Wrote × List ℕ → Wrote × List ℕ
 pickRoom true a b = a
 pickRoom false a b = b

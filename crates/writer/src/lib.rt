@@ -52,6 +52,7 @@ pub enum Wrote {
     Not(u8),
 }
 
+// 256 to the power k: what the octet with k behind it counts.
 fn unit_of(k: usize) -> u32
     requires { ⌜ k ≤ 3 ⌝ }
     ensures { λ r. ⌜ r ≡ 256 ^ k ⌝ }
@@ -85,6 +86,7 @@ fn put_octets(s: &mut [u8], i: usize, k: usize, v: u32) -> usize
     at
 }
 
+// A length, an id above the lowest of its kind, an integer with its length: from octet i on, to the octet behind.
 fn put_length(s: &mut [u8], i: usize, n: usize) -> usize
     requires { ⌜ (i + length (lengthOctets n) ≤ length (now s)) × (n < 16384) ⌝ }
     ensures { λ r. ⌜ Lays (now (s .entry)) i (lengthOctets n) (now (s .exit)) r ⌝ }
@@ -112,7 +114,7 @@ fn put_number(s: &mut [u8], i: usize, v: u32) -> usize
     put_octets(s, j, k, v)
 }
 
-// A field of a kind of the table of messages, at a bit. The bit behind it, where its value is in range, and the field written there.
+// The bit behind a field that starts at a bit, by its kind in the table of messages; or 8 where its value is out of range.
 fn code_end(at: usize, width: usize, most: u32, v: u32) -> Wrote
     requires { ⌜ (at ≤ 1000) × (width ≤ 8) ⌝ }
     ensures { λ r. ⌜ (r ≡ fieldUpto (code width most) v at) × Below (at + 48) r ⌝ }
@@ -161,6 +163,7 @@ fn field_end(kind: u8, v: u32, at: usize) -> Wrote
     }
 }
 
+// A code, and a field of any kind, written at a bit, to the bit behind.
 fn put_code(s: &mut [u8], at: usize, width: u32, v: u32) -> usize
     requires { ⌜ (at + width ≤ length (now s) * 8) × (length (now s) ≤ message-limit) × (width ≤ 8) × (v < 2 ^ width) × Clear (now s) at ⌝ }
     ensures { λ r. ⌜ Puts (now (s .entry)) at width v (now (s .exit)) × (r ≡ at + width) ⌝ }
@@ -185,7 +188,7 @@ fn put_field(s: &mut [u8], at: usize, kind: u8, v: u32) -> usize
     }
 }
 
-// The fields of a message: the bit behind them, or 8; and the fields written, up to an octet.
+// The bit behind the fields of a message, or 8.
 fn fields_end(number: u32, from: usize, values: &[u32]) -> Wrote
     requires { ⌜ (from ≤ 8) × (length (now values) ≤ 4) ⌝ }
     ensures { λ r. ⌜ (r ≡ fieldsUpto (fieldsOf number (length (now (values .entry)))) (now (values .entry)) from) × Below 200 r ⌝ }
@@ -206,6 +209,7 @@ fn fields_end(number: u32, from: usize, values: &[u32]) -> Wrote
     Wrote::Upto(at)
 }
 
+// The fields of a message, written up to an octet.
 fn put_fields(s: &mut [u8], from: usize, number: u32, values: &[u32]) -> usize
     requires { ⌜ (length (now values) ≤ 4) × (length (now s) ≤ message-limit) × Clear (now s) from × (fitsFields (fieldsOf number (length (now values))) (now values) ≡ true) × (fieldsEnd (fieldsOf number (length (now values))) (now values) from ≤ length (now s) * 8) ⌝ }
     ensures { λ r. ⌜ PutsFields (now (s .entry)) from (fieldsOf number (length (now (values .entry)))) (now (values .entry)) (now (s .exit)) r ⌝ }
@@ -220,7 +224,7 @@ fn put_fields(s: &mut [u8], from: usize, number: u32, values: &[u32]) -> usize
     (at + 7) / 8
 }
 
-// What follows the fields, of a kind of the table of messages: octets for a string, else ids.
+// What follows the fields, by its kind in the table of messages: octets for a string, else ids.
 fn items_len(kind: u8, ids: &[u16], octets: &[u8]) -> usize
     ensures { λ r. ⌜ r ≡ length (itemsFor kind (now (ids .entry)) (now (octets .entry))) ⌝ }
 {
@@ -238,6 +242,7 @@ fn item_at(kind: u8, ids: &[u16], octets: &[u8], i: usize) -> u32
     }
 }
 
+// An item of a list: whether it fits, how many there may be, how many octets each takes; and how many its length takes.
 fn fits_item(kind: u8, v: u32) -> bool
     ensures { λ r. ⌜ r ≡ fitsItem (itemOf kind) v ⌝ }
 {
@@ -271,6 +276,7 @@ fn length_size(n: usize) -> usize
     if n < 128 { 1 } else { 2 }
 }
 
+// An item of a list, written.
 fn put_item(s: &mut [u8], i: usize, kind: u8, v: u32) -> usize
     requires { ⌜ (fitsItem (itemOf kind) v ≡ true) × (i + length (writeItem (itemOf kind) v) ≤ length (now s)) ⌝ }
     ensures { λ r. ⌜ Lays (now (s .entry)) i (writeItem (itemOf kind) v) (now (s .exit)) r ⌝ }
@@ -285,6 +291,7 @@ fn put_item(s: &mut [u8], i: usize, kind: u8, v: u32) -> usize
     }
 }
 
+// How many octets what follows the fields takes, or 8.
 fn tail_size(kind: u8, ids: &[u16], octets: &[u8]) -> Wrote
     ensures { λ r. ⌜ (r ≡ tailUpto (tailOf kind) (itemsFor kind (now (ids .entry)) (now (octets .entry)))) × Below 40000 r ⌝ }
 {
@@ -309,6 +316,7 @@ fn tail_size(kind: u8, ids: &[u16], octets: &[u8]) -> Wrote
     Wrote::Upto(length_size(n) + n * item_size(kind))
 }
 
+// What follows the fields, written to the end of the octets lent.
 fn put_tail(s: &mut [u8], from: usize, kind: u8, ids: &[u16], octets: &[u8])
     requires { ⌜ (fitsTail (tailOf kind) (itemsFor kind (now ids) (now octets)) ≡ true) × (from + length (writeTail (tailOf kind) (itemsFor kind (now ids) (now octets))) ≡ length (now s)) ⌝ }
     ensures { λ _. ⌜ now (s .exit) ≡ take from (now (s .entry)) ++ writeTail (tailOf kind) (itemsFor kind (now (ids .entry)) (now (octets .entry))) ⌝ }
@@ -325,6 +333,7 @@ fn put_tail(s: &mut [u8], from: usize, kind: u8, ids: &[u16], octets: &[u8])
     }
 }
 
+// How many octets a message takes by its fields and what follows them; or 8; or 4 above the limit.
 fn body_size(number: u32, from: usize, values: &[u32], ids: &[u16], octets: &[u8]) -> Wrote
     requires { ⌜ (from ≤ 8) × (length (now values) ≤ 4) ⌝ }
     ensures { λ r. ⌜ r ≡ bodyUpto from (fieldsOf number (length (now (values .entry)))) (tailOf (tailAt number)) (now (values .entry)) (itemsFor (tailAt number) (now (ids .entry)) (now (octets .entry))) ⌝ }
@@ -367,6 +376,7 @@ fn message_size(number: u32, values: &[u32], ids: &[u16], octets: &[u8]) -> Wrot
     body_size(number, 6 + form, values, ids, octets)
 }
 
+// The bit that says whether the OPTIONAL field is there; the number and that bit, written.
 fn present_of(count: usize, have: usize) -> u32
     ensures { λ r. ⌜ (r ≡ bit (ltb count have)) × (r < 2) ⌝ }
 {

@@ -1,6 +1,6 @@
 use Rattle.codec.proofs.RoundTripLaws.{written-within, round-trip, no-trip}
 use lib.Seq.{length-take-le}
-use mathlib.Core.Path.{_≡_, refl, sym, ap, _∙_}
+use mathlib.Core.Path.{sym}
 use borrow.Author.Needs.{needs}
 use Rattle.codec.proofs.encode_decode.Statement.{statement}
 use Rattle.codec.proofs.encode_decode.Tie as tie

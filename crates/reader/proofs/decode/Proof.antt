@@ -1,4 +1,4 @@
-use mathlib.Core.Path.{sym, _∙_}
+use mathlib.Core.Path.{sym}
 use Rattle.reader.proofs.HeldLaws.{refused-is, decoded-as}
 use Rattle.octets.proofs.Reading.{ends-value}
 use Rattle.reader.proofs.RowLaws.{decode-none, decode-over, decode-no, number-left, decode-is}

@@ -1,6 +1,5 @@
 use borrow.Author.Needs.{needs}
 use borrow.Author.Tests.{not-true, not-false}
-use mathlib.Core.Path.{sym}
 use Rattle.reader.proofs.HeldLaws.{refused-is}
 use Rattle.reader.proofs.BodyLaws.{body-no, body-pad, body-tail-no, body-over, body-is}
 use Rattle.reader.proofs.decode_body.Statement.{statement}

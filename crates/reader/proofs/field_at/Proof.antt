@@ -1,5 +1,5 @@
 use Rattle.reader.specs.Stepping.{fieldAt}
-use borrow.Author.Tests.{eq-eqb, ne-eqb, lt-ltb, le-ltb, le-leb, lt-leb}
+use borrow.Author.Tests.{le-leb, lt-leb}
 use borrow.Author.Needs.{needs}
 use Rattle.reader.proofs.field_at.Statement.{statement}
 use Rattle.reader.proofs.field_at.Tie as tie

@@ -1,4 +1,3 @@
-use native.Mathlib.Omega.{arith}
 use Rattle.messages.specs.Columns.{fieldOf}
 use Rattle.messages.proofs.ColumnLaws.{kind-rest, seventh}
 use borrow.Author.Needs.{needs}

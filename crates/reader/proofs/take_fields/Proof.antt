@@ -1,5 +1,4 @@
 use borrow.Author.Needs.{needs}
-use native.Mathlib.Omega.{arith}
 use Prim.Native.Nat.{_-_}
 use Rattle.messages.specs.Columns.{fieldsOf}
 use Rattle.reader.proofs.Loop.{Sofar, sofar-none, fields-no, fields-more, fields-all}

@@ -1,7 +1,7 @@
 use Rattle.writer.proofs.MessageLaws.{filled-short, filled-not, filled-whole}
 use Rattle.writer.specs.declared.Wrote.the-variants.{Upto}
 use lib.Seq.{length-take-le}
-use mathlib.Core.Path.{_≡_, refl, sym, ap, _∙_}
+use mathlib.Core.Path.{sym, ap, _∙_}
 use borrow.Author.Needs.{needs}
 use Rattle.writer.proofs.encode.Statement.{statement}
 use Rattle.writer.proofs.encode.Tie as tie

@@ -1,6 +1,5 @@
 use Rattle.messages.proofs.ColumnLaws.{kind-rest, seventh}
 use Rattle.messages.specs.Columns.{fieldOf}
-use native.Mathlib.Omega.{arith}
 use borrow.Author.Needs.{needs}
 use Rattle.writer.proofs.field_end.Statement.{statement}
 use Rattle.writer.proofs.field_end.Tie as tie

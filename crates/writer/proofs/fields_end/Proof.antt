@@ -1,7 +1,7 @@
 use Rattle.writer.proofs.FieldLaws.{Ending, ending-none, ending-not, ending-more, ending-all}
 use Rattle.messages.specs.Columns.{fieldsOf}
 use lib.ListN.{length}
-use Prim.Native.Nat.{ℕ, _+_, _-_, _*_, _<_, _≤_}
+use Prim.Native.Nat.{_-_}
 use borrow.Author.Needs.{needs}
 use Rattle.writer.proofs.fields_end.Statement.{statement}
 use Rattle.writer.proofs.fields_end.Tie as tie

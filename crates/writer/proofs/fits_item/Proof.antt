@@ -1,6 +1,5 @@
-use borrow.Author.Tests.{eq-eqb, ne-eqb, lt-ltb, le-ltb, le-leb, lt-leb}
+use borrow.Author.Tests.{eq-eqb, ne-eqb, le-leb, lt-leb}
 use native.Mathlib.Omega.{arith}
-use mathlib.Core.Path.{_≡_, refl, sym, ap, _∙_}
 use Rattle.writer.specs.Writing.{itemOf}
 use Rattle.writer.proofs.fits_item.Statement.{statement}
 use Rattle.writer.proofs.fits_item.Tie as tie

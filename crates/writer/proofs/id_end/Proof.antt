@@ -1,6 +1,6 @@
-use borrow.Author.Tests.{eq-eqb, ne-eqb, lt-ltb, le-ltb, le-leb, lt-leb}
+use borrow.Author.Tests.{le-leb, lt-leb}
 use native.Mathlib.Omega.{arith}
-use mathlib.Core.Path.{_≡_, refl, sym, ap, _∙_}
+use mathlib.Core.Path.{refl}
 use Rattle.writer.specs.Writing.{fieldUpto}
 use borrow.Author.Needs.{needs}
 use Rattle.writer.proofs.id_end.Statement.{statement}

@@ -1,4 +1,4 @@
-use borrow.Author.Tests.{eq-eqb, ne-eqb, lt-ltb, le-ltb, le-leb, lt-leb}
+use borrow.Author.Tests.{eq-eqb, ne-eqb}
 use Rattle.writer.proofs.items_len.Statement.{statement}
 use Rattle.writer.proofs.items_len.Tie as tie
 

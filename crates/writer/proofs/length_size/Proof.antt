@@ -1,4 +1,4 @@
-use mathlib.Core.Path.{_≡_, refl, sym, ap, _∙_}
+use mathlib.Core.Path.{sym}
 use Rattle.writer.proofs.LayLaws.{length-one, length-two}
 use borrow.Author.Needs.{needs}
 use Rattle.writer.proofs.length_size.Statement.{statement}

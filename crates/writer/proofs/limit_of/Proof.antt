@@ -1,4 +1,4 @@
-use borrow.Author.Tests.{eq-eqb, ne-eqb, lt-ltb, le-ltb, le-leb, lt-leb}
+use borrow.Author.Tests.{eq-eqb, ne-eqb}
 use Rattle.writer.specs.Writing.{limitOf}
 use borrow.Author.Needs.{needs}
 use Rattle.writer.proofs.limit_of.Statement.{statement}

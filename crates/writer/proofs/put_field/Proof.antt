@@ -2,7 +2,7 @@ use Rattle.writer.proofs.LayLaws.{lays-near}
 use Rattle.writer.proofs.FieldLaws.{code-puts, item-puts, field-near, code-asks, id-asks, number-asks}
 use Rattle.messages.proofs.ColumnLaws.{kind-rest, seventh}
 use Rattle.messages.specs.Columns.{fieldOf}
-use mathlib.Core.Path.{_≡_, refl, sym, ap, _∙_}
+use mathlib.Core.Path.{ap}
 use native.Mathlib.Omega.{arith}
 use borrow.Author.Needs.{needs}
 use Rattle.writer.proofs.put_field.Statement.{statement}

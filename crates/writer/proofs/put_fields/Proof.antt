@@ -1,7 +1,7 @@
 use Rattle.writer.proofs.FieldLaws.{Putting, putting-none, putting-fits, putting-room, putting-more, putting-near, putting-all}
 use Rattle.messages.specs.Columns.{fieldsOf}
 use lib.ListN.{length}
-use Prim.Native.Nat.{ℕ, _+_, _-_, _*_, _<_, _≤_}
+use Prim.Native.Nat.{_-_}
 use borrow.Author.Needs.{needs}
 use native.Mathlib.Omega.{arith}
 use Rattle.writer.proofs.put_fields.Statement.{statement}

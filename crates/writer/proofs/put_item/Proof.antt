@@ -1,9 +1,8 @@
 use Rattle.writer.proofs.LayLaws.{id-fits}
 use Rattle.writer.proofs.LayLaws.{octet-lays}
 use Rattle.writer.specs.Writing.{itemOf}
-use borrow.Author.Tests.{ltb-true, leb-true}
-use native.Mathlib.Omega.{arith}
-use borrow.Author.Tests.{eq-eqb, ne-eqb, lt-ltb, le-ltb, le-leb, lt-leb}
+use borrow.Author.Tests.{ltb-true}
+use borrow.Author.Tests.{eq-eqb, ne-eqb}
 use borrow.Author.Needs.{needs}
 use Rattle.writer.proofs.put_item.Statement.{statement}
 use Rattle.writer.proofs.put_item.Tie as tie

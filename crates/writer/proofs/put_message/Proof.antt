@@ -1,6 +1,6 @@
 use Rattle.writer.proofs.MessageLaws.{fine-given, fine-some, fine-four, fine-room, fine-tail, fine-same}
 use Rattle.writer.specs.Writing.{given}
-use mathlib.Core.Path.{_≡_, refl, sym, ap, _∙_}
+use mathlib.Core.Path.{refl}
 use native.Mathlib.Omega.{arith}
 use borrow.Author.Needs.{needs}
 use Rattle.writer.proofs.put_message.Statement.{statement}

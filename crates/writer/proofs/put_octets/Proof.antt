@@ -1,5 +1,4 @@
 use Rattle.writer.proofs.LayLaws.{Laying, laying-none, laying-room, laying-more, laying-all, unit-pos}
-use native.Mathlib.Omega.{arith}
 use borrow.Author.Needs.{needs}
 use Rattle.writer.proofs.put_octets.Statement.{statement}
 use Rattle.writer.proofs.put_octets.Tie as tie

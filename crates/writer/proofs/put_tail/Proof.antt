@@ -1,8 +1,8 @@
 use Rattle.writer.proofs.TailLaws.{Listing, listing-nothing, listing-room, listing-start, listing-fits, listing-next, listing-more, listing-all, listing-whole}
 use Rattle.writer.specs.Writing.{itemsFor}
 use lib.ListN.{length}
-use Prim.Native.Nat.{ℕ, _+_, _-_, _*_, _<_, _≤_}
-use mathlib.Core.Path.{_≡_, refl, sym, ap, _∙_}
+use Prim.Native.Nat.{_-_}
+use mathlib.Core.Path.{_≡_, _∙_}
 use native.Mathlib.Omega.{arith}
 use borrow.Author.Needs.{needs}
 use Rattle.writer.proofs.put_tail.Statement.{statement}

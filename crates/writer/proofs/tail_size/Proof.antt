@@ -1,7 +1,7 @@
 use Rattle.writer.proofs.TailLaws.{Checking, size-none, size-some, size-over, checking-none, checking-at, checking-bad, checking-more, checking-all}
 use Rattle.writer.specs.Writing.{itemsFor}
 use native.Mathlib.Omega.{arith}
-use Prim.Native.Nat.{ℕ, _+_, _-_, _*_, _<_, _≤_}
+use Prim.Native.Nat.{_-_}
 use borrow.Author.Needs.{needs}
 use Rattle.writer.proofs.tail_size.Statement.{statement}
 use Rattle.writer.proofs.tail_size.Tie as tie

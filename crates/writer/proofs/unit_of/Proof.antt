@@ -1,5 +1,5 @@
 use native.Mathlib.Omega.{arith}
-use mathlib.Core.Path.{_≡_, refl, sym, ap, _∙_}
+use mathlib.Core.Path.{_≡_}
 use Rattle.writer.proofs.unit_of.Statement.{statement}
 use Rattle.writer.proofs.unit_of.Tie as tie
 
