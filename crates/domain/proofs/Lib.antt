@@ -1,2 +1,3 @@
 pub mod CellLaws
 pub mod Effects
+pub mod Opened

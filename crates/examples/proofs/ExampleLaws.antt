@@ -1,7 +1,7 @@
 -- Every example of the table holds: both sides compute to the same. Assumes nothing.
 use mathlib.Core.Path.{refl}
 use Rattle.examples.specs.Examples.{All, examples, goes, on-0, heard, seen}
-use Rattle.examples.proofs.Opened.{opened}
+use Rattle.domain.proofs.Opened.{opened}
 
 pub examples-hold : All examples
 unfolding opened goes on-0 heard seen

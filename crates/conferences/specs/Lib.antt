@@ -1,0 +1,6 @@
+pub mod View
+pub mod Run
+pub mod Offers
+pub mod Private
+pub mod Joins
+pub mod Limits

@@ -1,0 +1,1 @@
+// The machine's definitions tried on their own: worked conferences, computed.
