@@ -213,7 +213,7 @@ def good_writes(dice, erlang):
         size = len(erlang.write(*message))
         for room in (0, size - 1, size, size + 1, ROOM):
             yield given(message, room)
-    for size in (1019, 1020, 1021, 1022, 16383):
+    for size in (1019, 1020, 1021, 1022, 16383, 16384):
         for room in (0, 10, 1022, 1023, 1024, 1025, ROOM) if size < 2000 else (ROOM,):
             yield given((NUMBERS["RJum"], [4], dice.octets(size)), room)
 
@@ -253,6 +253,7 @@ def many_faults(dice):
         for size in (1020, 1021):
             for room in (ROOM, 1024, 1023, 0):
                 yield NUMBERS["RJum"], [diagnostic], [], long[:size], room
+        yield NUMBERS["RJum"], [diagnostic], [], bytes(16384), ROOM
     for number in (number for number in COVERED if LAYOUTS[number].fields and is_list(LAYOUTS[number].fields[-1])):
         _, values, _ = plain(dice, number)
         for wrong in values, [0] * len(values), [4294967295] * len(values):

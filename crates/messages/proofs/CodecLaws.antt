@@ -2,17 +2,19 @@
 use mathlib.Core.Path.{_≡_, refl, sym, ap, _∙_, subst}
 use mathlib.Core.Bool.{Bool, true, false, cond, _&&_}
 use mathlib.Core.List.{List, [], _∷_, _++_, append-nil}
-use Prim.Native.Nat.{ℕ, zero, suc, _^_, _<_}
+use Prim.Native.Nat.{ℕ, zero, suc, _^_, _<_, _≤_}
+use native.Mathlib.Nat.{le-trans}
 use native.Mathlib.Omega.{arith}
 use lib.ListN.{length, getD, length-append, List·getD-eq-default}
 use lib.Dec.{leb, ltb, eqb}
 use lib.Pow.{pow-pos}
-use borrow.Author.Tests.{ltb-true, leb-true, leb-false, eqb-true, eqb-false, lt-ltb, le-ltb}
-use Rattle.octets.specs.Octets.{Read, got, no, _>>=_, give, need, writeItem, readItem, Tail, nothing, fitsTail, writeTail, readTail, Bytes}
+use borrow.Author.Tests.{ltb-true, leb-true, leb-false, eqb-true, eqb-false, lt-ltb, le-ltb, le-leb}
+use Rattle.octets.specs.Octets.{Read, got, no, _>>=_, give, need, anOctet, anId, aNumber, lengthOctets, fitsItems, writeItem, writeItems, readItem, Tail, nothing, list, fitsTail, writeTail, readTail, Bytes}
 use Rattle.octets.proofs.OctetLaws.{bytes-behind, refused, followed, needed, go-on, both, both-left, both-right, item-exact, sound-tail, tail-exact}
-use Rattle.messages.specs.Messages.{Field, code, item, Row, plain, optional, uncovered, unknown, kind, presence, Way, down, table, entry, row}
-use Rattle.octets.specs.Bits.{takeBits}
-use Rattle.messages.specs.Codec.{leftAfter, fitsField, putField, takeField, fitsFields, putFields, takeFields, fitsBody, putBody, takeBody, Msg, chosen, bit, fitsRow, putRow, takeRow, octetsOfMsg, readMsg, Outcome, ok, refuse, ending, sized, decode, within}
+use Rattle.messages.specs.Messages.{Field, code, item, Row, plain, optional, uncovered, unknown, kind, presence, Way, down, table, entry, row, covers}
+use Rattle.messages.specs.Limits.{message-limit}
+use Rattle.octets.specs.Bits.{putBits, takeBits}
+use Rattle.messages.specs.Codec.{leftAfter, fitsField, putField, takeField, fitsFields, putFields, takeFields, fitsBody, putBody, takeBody, Msg, chosen, bit, fitsRow, putRow, takeRow, octetsOfMsg, readMsg, Outcome, ok, refuse, ending, sized, decode, within, inTail, inRange, encode}
 use Rattle.octets.proofs.BitLaws.{bits-back, bits-bound, bits-only}
 
 -- fields
@@ -197,20 +199,20 @@ row-only (optional fs f) b r xs s y e =
 row-only uncovered b r xs s y e = absurd (refused e)
 row-only unknown b r xs s y e = absurd (refused e)
 
--- the table
-unfoldable pub sound-rows : List (Way × Row) → Bool
-sound-rows [] = true
-sound-rows (e ∷ es) = sound-row (e .1) && sound-rows es
+-- the table: what a test says of each row holds at every number
+unfoldable pub all-rows : (Row → Bool) → List (Way × Row) → Bool
+all-rows p [] = p unknown
+all-rows p (e ∷ es) = p (e .1) && all-rows p es
 
-sound-at : (es : List (Way × Row)) → sound-rows es ≡ true → (n : ℕ) → sound-row (getD es n (down, unknown) .1) ≡ true
-unfolding sound-rows sound-row
-sound-at [] s n = refl
-sound-at (e ∷ es) s zero = both-left (sound-row (e .1)) (sound-rows es) s
-sound-at (e ∷ es) s (suc n) = sound-at es (both-right (sound-row (e .1)) (sound-rows es) s) n
+at-row : (p : Row → Bool) (es : List (Way × Row)) → all-rows p es ≡ true → (n : ℕ) → p (getD es n (down, unknown) .1) ≡ true
+unfolding all-rows
+at-row p [] s n = s
+at-row p (e ∷ es) s zero = both-left (p (e .1)) (all-rows p es) s
+at-row p (e ∷ es) s (suc n) = at-row p es (both-right (p (e .1)) (all-rows p es) s) n
 
 row-sound : (n : ℕ) → sound-row (row n) ≡ true
-unfolding row entry sound-rows sound-row sound-fields sound-field sound-tail
-row-sound n = sound-at table refl n
+unfolding row entry all-rows sound-row sound-fields sound-field sound-tail
+row-sound n = at-row sound-row table refl n
 
 row-number : (n : ℕ) (vs items : List ℕ) → fitsRow (row n) vs items ≡ true → leb n 63 ≡ true
 unfolding row entry
@@ -264,3 +266,85 @@ octets-only os m y e =
     let c = row-only (row (t .0)) (t .1) r rest (row-sound (t .0)) (a .1) (rw q at fields) in
     let all : os ≡ octetsOfMsg (record { number = t .0; values = r .0; items = r .1 }) = ap (λ x. x .1) (a .2 ∙ ap (λ l. putField kind 0 (t .0) l) (c .1)) in
     rw (← p) (both (c .0) (ap sized (sym all) ∙ size), all)
+
+-- a string's limit is no less than a message's
+unfoldable pub roomy-tail : Tail → Bool
+roomy-tail nothing = true
+roomy-tail (list anOctet limit) = leb message-limit limit
+roomy-tail (list (anId low) limit) = true
+roomy-tail (list aNumber limit) = true
+
+unfoldable pub roomy-row : Row → Bool
+roomy-row (plain fs t) = roomy-tail t
+roomy-row (optional fs f) = true
+roomy-row uncovered = true
+roomy-row unknown = true
+
+row-roomy : (n : ℕ) → roomy-row (row n) ≡ true
+unfolding row entry all-rows roomy-row roomy-tail
+row-roomy n = at-row roomy-row table refl n
+
+string-length : (vs : List ℕ) → length (writeItems anOctet vs) ≡ length vs
+string-length [] = refl
+string-length (v ∷ vs) = ap suc (string-length vs)
+
+-- what is in range and no longer than a message fits; what fits is in range
+pub tail-fits : (t : Tail) (items : List ℕ) → roomy-tail t ≡ true → inTail t items ≡ true → length (writeTail t items) ≤ message-limit → fitsTail t items ≡ true
+unfolding roomy-tail
+tail-fits nothing items r h l = h
+tail-fits (list (anId low) limit) items r h l = h
+tail-fits (list aNumber limit) items r h l = h
+tail-fits (list anOctet limit) items r h l =
+    both (le-leb (length items) limit (omega (arith, leb-true message-limit limit r, string-length items, length-append (lengthOctets (length items)) (writeItems anOctet items)))) h
+
+pub tail-in : (t : Tail) (items : List ℕ) → fitsTail t items ≡ true → inTail t items ≡ true
+tail-in nothing items h = h
+tail-in (list (anId low) limit) items h = h
+tail-in (list aNumber limit) items h = h
+tail-in (list anOctet limit) items h = both-right (leb (length items) limit) (fitsItems anOctet items) h
+
+field-grows : (f : Field) (j v : ℕ) (r : ℕ × List ℕ) → length (r .1) ≤ length (putField f j v r .1)
+field-grows (code w m) j v r = go (leb w j) refl
+  where
+    go : (t : Bool) → leb w j ≡ t → length (r .1) ≤ length (putBits w j v r .1)
+    go true e = simp e (omega arith)
+    go false e = simp e (omega arith)
+field-grows (item i) j v r = omega (arith, length-append (writeItem i v) (r .1))
+
+fields-grow : (fs : List Field) (j : ℕ) (vs : List ℕ) (r : ℕ × List ℕ) → length (r .1) ≤ length (putFields fs j vs r .1)
+fields-grow [] j vs r = omega arith
+fields-grow (f ∷ fs) j [] r = omega arith
+fields-grow (f ∷ fs) j (v ∷ vs) r =
+    le-trans (fields-grow fs (leftAfter f j) vs r) (field-grows f j v (putFields fs (leftAfter f j) vs r))
+
+row-fits : (R : Row) (vs items : List ℕ) → roomy-row R ≡ true → inRange R vs items ≡ true → length (putRow R vs items .1) ≤ message-limit → fitsRow R vs items ≡ true
+unfolding roomy-row
+row-fits (plain fs t) vs items r h l =
+    both (both-left (fitsFields fs vs) (inTail t items) h)
+    (tail-fits t items r (both-right (fitsFields fs vs) (inTail t items) h) (le-trans (fields-grow fs 2 vs (0, writeTail t items)) l))
+row-fits (optional fs f) vs items r h l = h
+row-fits uncovered vs items r h l = h
+row-fits unknown vs items r h l = h
+
+row-in : (R : Row) (vs items : List ℕ) → fitsRow R vs items ≡ true → (covers R ≡ true) × (inRange R vs items ≡ true)
+row-in (plain fs t) vs items h = (refl, both (both-left (fitsFields fs vs) (fitsTail t items) h) (tail-in t items (both-right (fitsFields fs vs) (fitsTail t items) h)))
+row-in (optional fs f) vs items h = (refl, h)
+row-in uncovered vs items h = (h, h)
+row-in unknown vs items h = (h, h)
+
+-- what is written is within the limits, and what is within them is written
+pub ok-within : (m : Msg) (os : List ℕ) → encode m ≡ ok os → (within m ≡ true) × (octetsOfMsg m ≡ os)
+unfolding encode octetsOfMsg
+ok-within m os e =
+    taken (covers (row (m .number))) _ 7 e λ known then.
+    taken (inRange (row (m .number)) (m .values) (m .items)) _ 8 then λ range then.
+    taken (sized (octetsOfMsg m)) _ 4 then λ size same.
+    let Q : ℕ × List ℕ = putRow (row (m .number)) (m .values) (m .items) in
+    let few = leb-true (length (octetsOfMsg m)) message-limit (both-right (ltb 0 (length (octetsOfMsg m))) (leb (length (octetsOfMsg m)) message-limit) size) in
+    (both (row-fits (row (m .number)) (m .values) (m .items) (row-roomy (m .number)) range (le-trans (field-grows kind 0 (m .number) Q) few)) size, cc)
+
+pub within-ok : (m : Msg) → within m ≡ true → encode m ≡ ok (octetsOfMsg m)
+unfolding encode
+within-ok m h =
+    let r = row-in (row (m .number)) (m .values) (m .items) (both-left (fitsRow (row (m .number)) (m .values) (m .items)) (sized (octetsOfMsg m)) h) in
+    simp (r .0, r .1, both-right (fitsRow (row (m .number)) (m .values) (m .items)) (sized (octetsOfMsg m)) h)

@@ -11,14 +11,14 @@ use lib.Dec.{leb, ltb}
 use borrow.Author.Tests.{ltb-true, leb-true, eqb-true, lt-ltb, le-leb}
 use Rattle.octets.specs.Octets.{Bytes, Item, anOctet, anId, aNumber, fitsItem, fitsItems, Tail, nothing, list, fitsTail, octetsOf, lengthOctets, size, writeItem, writeItems, writeTail}
 use Rattle.messages.specs.Limits.{list-limit, string-limit, message-limit}
-use Rattle.messages.specs.Messages.{Field, code, item, Way, down, Row, plain, optional, uncovered, unknown, table, entry, row, covers}
-use Rattle.messages.specs.Codec.{fitsField, fitsFields, Msg, chosen, fitsRow, octetsOfMsg, Outcome, ok, refuse, sized, decode, encode}
+use Rattle.messages.specs.Messages.{Field, code, item, Way, down, Row, plain, optional, uncovered, unknown, table, entry, row}
+use Rattle.messages.specs.Codec.{fitsField, fitsFields, Msg, chosen, fitsRow, octetsOfMsg, Outcome, ok, refuse, sized, decode}
 use Rattle.messages.specs.Named.{Message, EDrq, DPum, RJum, AUrq, AUcf, DUrq, DUin, CJrq, CJcf, CLrq, CCrq, CCcf, CDrq, CDin, CArq, CAin, CErq, CEin}
 use Rattle.messages.specs.Named.{TGrq, TGcf, TIrq, TIcf, TVrq, TVin, TVrs, TVcf, TPrq, TPin, TRrq, TRcf, TTrq, TTcf}
 use Rattle.messages.specs.Named.{msg, maybe, fields, Taking, Name, Names, end, _&_, names, nameAt, taking, whole, last, made, named, formed, octets, called, heardAs, heard}
 use Rattle.octets.proofs.OctetLaws.{size-holds, both, both-left, both-right}
-use Rattle.messages.proofs.CodecLaws.{wrong, taken, octets-only}
-use Rattle.messages.proofs.Theorems.{within-covered, written-is-read, read-is-written}
+use Rattle.messages.proofs.CodecLaws.{wrong, octets-only, ok-within, within-ok}
+use Rattle.messages.proofs.Theorems.{written-is-read, read-is-written}
 
 -- a message's number, values and list name it
 pub named-fields : (m : Message) → named (fields m) ≡ some m
@@ -241,11 +241,10 @@ pub exactly-heard : (m : Message) (os : List ℕ) → Bytes os → (octets m ≡
 exactly-heard m os y = (sent-heard m os, heard-sent os y m)
 
 pub sent-is : {G : Type 0} (m : Message) (os : List ℕ) → octets m ≡ ok os → (formed m ≡ true → octetsOfMsg (fields m) ≡ os → G) → G
-unfolding octets encode formed
+unfolding octets formed
 sent-is m os e g =
-    taken (covers (row (fields m .number))) _ 7 e λ known then.
-    taken (fitsRow (row (fields m .number)) (fields m .values) (fields m .items)) _ 8 then λ fits then.
-    taken (sized (octetsOfMsg (fields m))) _ 4 then λ size same. g fits (cc)
+    let w = ok-within (fields m) os e in
+    g (both-left (fitsRow (row (fields m .number)) (fields m .values) (fields m .items)) (sized (octetsOfMsg (fields m))) (w .0)) (w .1)
 
 -- the ranges of a message's values, by the row of the table
 pub record Between (low high v : ℕ) : Type 0 where
@@ -589,7 +588,7 @@ begun x = omega arith
 
 -- what is formed and takes no more octets than a message may is sent
 pub formed-sent : (m : Message) → formed m ≡ true → sizeOf m ≤ message-limit → octets m ≡ ok (octetsOfMsg (fields m))
-unfolding octets encode formed
+unfolding octets formed
 formed-sent m f few =
     let n : ℕ = length (octetsOfMsg (fields m)) in
-    simp (within-covered (row (fields m .number)) (fields m .values) (fields m .items) f, f, lt-ltb 0 n (begun (fields m)), le-leb n message-limit (omega (arith, sizes m f)))
+    within-ok (fields m) (both f (both (lt-ltb 0 n (begun (fields m))) (le-leb n message-limit (omega (arith, sizes m f)))))

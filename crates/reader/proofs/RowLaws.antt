@@ -1,22 +1,25 @@
 -- A message by its number: what `decode_row` and `decode` answer. Assumes nothing.
-use mathlib.Core.Path.{_≡_, sym, ap, _∙_, subst}
+use mathlib.Core.Path.{_≡_, refl, sym, ap, _∙_, subst}
+use mathlib.Core.Bool.{Bool, true, false}
 use mathlib.Core.List.{List}
-use Prim.Native.Nat.{ℕ, _+_, _<_, _≤_}
-use native.Mathlib.Nat.{mod-one}
+use Prim.Native.Nat.{ℕ, _+_, _*_, _<_, _≤_}
+use native.Mathlib.Nat.{add-zero, mod-one}
 use native.Mathlib.Omega.{arith}
 use lib.ListN.{length, getD}
-use lib.Dec.{eqb}
-use borrow.Author.Tests.{eq-eqb, ne-eqb, lt-ltb, le-leb, lt-leb}
+use lib.Dec.{leb, eqb}
+use borrow.Author.Tests.{eq-eqb, ne-eqb, eqb-true, eqb-false, lt-ltb, le-leb, lt-leb, leb-true}
 use Rattle.messages.specs.Limits.{message-limit}
-use Rattle.octets.specs.Octets.{Read, follow, nothing}
+use Rattle.octets.specs.Octets.{Read, follow, give, need, nothing}
+use Rattle.octets.specs.Bits.{takeBits}
+use Rattle.octets.proofs.OctetLaws.{followed, needed}
 use Rattle.messages.specs.Messages.{code, kind, Row, plain, optional, uncovered, unknown, row}
 use Rattle.messages.specs.Codec.{takeField, takeBody, takeRow, chosen, Msg, Outcome, refuse, ending, decode}
 use Rattle.octets.specs.Places.{leftAt, bitsAt, behind, atBit}
-use Rattle.reader.specs.Reading.{TakesField, message, bodyAt, rowAt}
+use Rattle.reader.specs.Reading.{TakesField, message, bodyAt, rowAt, onward, GoesOn}
 use Rattle.messages.specs.Columns.{formAt, countAt, tailAt, fieldsOf, tailOf, lastField, rowFrom}
 use Rattle.octets.specs.declared.Got.{Got}
 use Rattle.octets.specs.declared.Got.the-variants.{Value, No}
-use Rattle.messages.proofs.ColumnLaws.{row-from, one-more, no-tail}
+use Rattle.messages.proofs.ColumnLaws.{row-from, one-more, no-tail, count-few, count-one-more}
 
 ofPresence : ℕ → Read (ℕ × ℕ) → Outcome Msg
 ofPresence n x = ending (follow (follow x (λ p. takeBody (chosen (eqb (p .0) 1) (fieldsOf n (countAt n)) (lastField n)) nothing 1 (p .1))) (message n))
@@ -26,15 +29,15 @@ module _ (s : List ℕ) (at n : ℕ) where
   unfolding rowAt
   by-row R e = ap (λ r. ending (follow (takeRow r (bitsAt s at) (behind s at)) (message n))) e
 
-  pub row-unknown : 2 < formAt n → rowAt s at n ≡ refuse 5
+  row-unknown : 2 < formAt n → rowAt s at n ≡ refuse 5
   unfolding rowFrom
   row-unknown u = by-row unknown (row-from n ∙ simp (ne-eqb (formAt n) 0 (λ e. omega arith), ne-eqb (formAt n) 1 (λ e. omega arith), ne-eqb (formAt n) 2 (λ e. omega arith)))
 
-  pub row-uncovered : formAt n ≡ 2 → rowAt s at n ≡ refuse 7
+  row-uncovered : formAt n ≡ 2 → rowAt s at n ≡ refuse 7
   unfolding rowFrom
   row-uncovered u = by-row uncovered (row-from n ∙ simp u)
 
-  pub row-plain : formAt n ≡ 0 → leftAt at ≡ 2 → rowAt s at n ≡ bodyAt s at (countAt n) n
+  row-plain : formAt n ≡ 0 → leftAt at ≡ 2 → rowAt s at n ≡ bodyAt s at (countAt n) n
   unfolding rowFrom bodyAt
   row-plain z l = by-row (plain (fieldsOf n (countAt n)) (tailOf (tailAt n))) (row-from n ∙ rw (eq-eqb (formAt n) 0 z)) ∙ rw l
 
@@ -48,7 +51,7 @@ module _ (s : List ℕ) (at n : ℕ) where
     tail-nothing : tailOf (tailAt n) ≡ nothing
     tail-nothing = no-tail n z
 
-    pub row-no : (k : ℕ) → g ≡ No k → rowAt s at n ≡ refuse k
+    row-no : (k : ℕ) → g ≡ No k → rowAt s at n ≡ refuse k
     unfolding ofPresence
     row-no k e = optional-row ∙ ap (λ q. ofPresence n (atBit s q)) e
 
@@ -56,13 +59,53 @@ module _ (s : List ℕ) (at n : ℕ) where
       left-one : leftAt next ≡ 1
       left-one = let b : TakesField s at (code 1 1) (Value v next) = rw e at t in rw l at (b .leaves)
 
-      pub row-present : v ≡ 1 → rowAt s at n ≡ bodyAt s next (countAt n + 1) n
+      row-present : v ≡ 1 → rowAt s at n ≡ bodyAt s next (countAt n + 1) n
       unfolding bodyAt ofPresence
       row-present k = optional-row ∙ ap (λ q. ofPresence n (atBit s q)) e ∙ rw (eq-eqb v 1 k, one-more n z, tail-nothing, left-one)
 
-      pub row-absent : (v ≡ 1 → ⊥) → rowAt s at n ≡ bodyAt s next (countAt n) n
+      row-absent : (v ≡ 1 → ⊥) → rowAt s at n ≡ bodyAt s next (countAt n) n
       unfolding bodyAt ofPresence
       row-absent k = optional-row ∙ ap (λ q. ofPresence n (atBit s q)) e ∙ rw (ne-eqb v 1 k, tail-nothing, left-one)
+
+  -- what `presence` answers
+  pub on-unknown : 2 < formAt n → GoesOn s at n (No 5)
+  on-unknown u = record { same = sym (row-unknown u); inside = tt; few = tt }
+
+  pub on-uncovered : formAt n ≡ 2 → GoesOn s at n (No 7)
+  on-uncovered u = record { same = sym (row-uncovered u); inside = tt; few = tt }
+
+  pub on-plain : formAt n ≡ 0 → leftAt at ≡ 2 → at ≤ length s * 8 → GoesOn s at n (Value 0 at)
+  on-plain z l h = record { same = rw add-zero (sym (row-plain z l)); inside = h; few = omega (arith, count-few n) }
+
+  one-bit : (v next : ℕ) → TakesField s at (code 1 1) (Value v next) → v ≤ 1
+  unfolding takeField
+  one-bit v next t =
+      followed (takeBits 1 (leftAt at) (bitsAt s at) (behind s at)) (λ u. need (leb (u .0) 1) 5 (give u)) (sym (t .same)) λ u rest read then.
+      needed (leb (u .0) 1) 5 (give u) rest then λ most same.
+      let p : u ≡ (v, bitsAt s next) = cc in
+      let z : u .0 ≡ v = ap (λ (q : ℕ × ℕ). q .0) p in
+      omega (arith, leb-true (u .0) 1 most)
+
+  pub on-optional : formAt n ≡ 1 → leftAt at ≡ 2 → (g : Got) → TakesField s at (code 1 1) g → GoesOn s at n g
+  on-optional z l (No k) t = record { same = sym (row-no z l (No k) t k refl); inside = tt; few = tt }
+  on-optional z l (Value v next) t =
+      let b : v ≤ 1 = one-bit v next t in
+      record { same = sym (go (eqb v 1) refl); inside = t .inside; few = omega (arith, count-one-more n z) }
+    where
+      go : (k : Bool) → eqb v 1 ≡ k → rowAt s at n ≡ bodyAt s next (countAt n + v) n
+      go true e = let o : v ≡ 1 = eqb-true v 1 e in row-present z l (Value v next) t v next refl o ∙ rw o
+      go false e =
+          let b : v ≤ 1 = one-bit v next t in
+          let no : v ≡ 1 → ⊥ = eqb-false v 1 e in
+          let o : v ≡ 0 = omega (arith, no) in
+          row-absent z l (Value v next) t v next refl no ∙ rw (o, add-zero)
+
+  module _ (g : Got) (o : GoesOn s at n g) where
+    pub on-no : (k : ℕ) → g ≡ No k → rowAt s at n ≡ refuse k
+    on-no k e = sym (o .same) ∙ ap (λ q. onward s n q) e
+
+    pub on-body : (v next : ℕ) → g ≡ Value v next → (bodyAt s next (countAt n + v) n ≡ rowAt s at n) × (next ≤ length s * 8) × (countAt n + v ≤ 4)
+    on-body v next e = let p : GoesOn s at n (Value v next) = rw e at o in (p .same, p .inside, p .few)
 
 -- a whole message
 ofNumber : Read (ℕ × ℕ) → Outcome Msg

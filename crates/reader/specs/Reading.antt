@@ -2,19 +2,20 @@
 use mathlib.Core.Path.{_≡_}
 use mathlib.Core.Bool.{Bool, true, false, cond}
 use mathlib.Core.List.{List, []}
-use Prim.Native.Nat.{ℕ, _-_, _*_, _≤_}
+use Prim.Native.Nat.{ℕ, _+_, _-_, _*_, _≤_}
 use lib.Dec.{leb}
 use lib.ListN.{length, take, drop}
 use Rattle.messages.specs.Limits.{list-limit}
 use Rattle.octets.specs.Octets.{Read, got, no, Reader, follow, give, need, readItems, Tail, nothing, list}
 use Rattle.messages.specs.Messages.{Field, row}
-use Rattle.messages.specs.Codec.{leftAfter, takeField, takeFields, takeBody, takeRow, Msg, Outcome, ok, ending, decode}
+use Rattle.messages.specs.Codec.{leftAfter, takeField, takeFields, takeBody, takeRow, Msg, Outcome, ok, refuse, ending, decode}
 use Rattle.reader.specs.declared.Fields.{Fields}
 use Rattle.reader.specs.declared.Items.{Items}
 use Rattle.reader.specs.Held.{padded}
 use Rattle.octets.specs.declared.Got.{Got}
-use Rattle.octets.specs.Places.{leftAt, bitsAt, behind, Bitwise}
-use Rattle.messages.specs.Columns.{tailAt, fieldsOf, tailOf}
+use Rattle.octets.specs.declared.Got.the-variants.{Value, No}
+use Rattle.octets.specs.Places.{leftAt, bitsAt, behind, EndsAt, Bitwise}
+use Rattle.messages.specs.Columns.{countAt, tailAt, fieldsOf, tailOf}
 
 -- a field of a kind, taken at a bit
 abbrev pub TakesField : List ℕ → ℕ → Field → Got → Type 0
@@ -66,6 +67,20 @@ bodyAt s at count number =
 
 unfoldable pub rowAt : List ℕ → ℕ → ℕ → Outcome Msg
 rowAt s at number = ending (follow (takeRow (row number) (bitsAt s at) (behind s at)) (message number))
+
+-- behind its number a message goes on with its fields, so many more than are always there; or it is refused
+abbrev pub onward : List ℕ → ℕ → Got → Outcome Msg
+onward s number (Value more next) = bodyAt s next (countAt number + more) number
+onward s number (No n) = refuse n
+
+abbrev pub FewMore : ℕ → Got → Type 0
+FewMore number (Value more next) = countAt number + more ≤ 4
+FewMore number (No n) = Unit {0}
+
+pub record GoesOn (s : List ℕ) (at number : ℕ) (r : Got) : Type 0 where
+  pub same : onward s number r ≡ rowAt s at number
+  pub inside : EndsAt (length s * 8) r
+  pub few : FewMore number r
 
 abbrev pub decodeOf : List ℕ → Outcome Msg
 decodeOf s = decode s

@@ -23,7 +23,7 @@ ghost use Rattle.messages.specs.Messages.{code, item};
 ghost use Rattle.messages.specs.Columns.{fieldOf, fieldsOf, tailOf};
 ghost use Rattle.octets.specs.Bits.{takeBits, after};
 ghost use Rattle.octets.specs.Places.{leftAt, bitsAt, behind, Bitwise, cappedOf, inBits, EndsAt};
-ghost use Rattle.reader.specs.Reading.{TakesField, TakesFields, ReadsItems, listed, bodyAt, rowAt, decodeOf};
+ghost use Rattle.reader.specs.Reading.{TakesField, TakesFields, ReadsItems, listed, bodyAt, rowAt, GoesOn, decodeOf};
 ghost use Rattle.reader.specs.Held.{noMessage, decoded};
 ghost use Rattle.reader.specs.Stepping.{FieldAt, Steps};
 
@@ -368,32 +368,34 @@ fn decode_body(s: &[u8], at: usize, count: usize, number: u32) -> Decoded
     }
 }
 
+// How many fields a message has beyond those that are always there, and the bit where its fields start; or the refusal of its number.
+fn presence(s: &[u8], at: usize, number: u32) -> Got
+    requires { ⌜ (at ≤ length (now s) * 8) × (length (now s) ≤ message-limit) × (leftAt at ≡ 2) ⌝ }
+    ensures { λ r. ⌜ GoesOn (now (s .entry)) at number r ⌝ }
+{
+    let form = form_of(number);
+    if 2 < form {
+        return Got::No(5);
+    }
+    if form == 2 {
+        return Got::No(7);
+    }
+    if form == 0 {
+        return Got::Value(0, at);
+    }
+    take_code(s, at, 1, 1)
+}
+
 // A message, by its number.
 fn decode_row(s: &[u8], at: usize, number: u32) -> Decoded
     requires { ⌜ (at ≤ length (now s) * 8) × (length (now s) ≤ message-limit) × (leftAt at ≡ 2) ⌝ }
     ensures { λ r. ⌜ r ≡ decoded (now (s .entry)) (rowAt (now (s .entry)) at number) ⌝ }
 {
-    let form = form_of(number);
-    if 2 < form {
-        return refused(5);
-    }
-    if form == 2 {
-        return refused(7);
-    }
     let count = count_of(number);
-    if form == 0 {
-        return decode_body(s, at, count, number);
-    }
-    let g = take_code(s, at, 1, 1);
+    let g = presence(s, at, number);
     match g {
         Got::No(n) => refused(n),
-        Got::Value(v, next) => {
-            if v == 1 {
-                decode_body(s, next, count + 1, number)
-            } else {
-                decode_body(s, next, count, number)
-            }
-        }
+        Got::Value(more, next) => decode_body(s, next, count + more as usize, number),
     }
 }
 

@@ -13,8 +13,8 @@ use Rattle.octets.specs.Octets.{Tail, nothing, fitsTail, writeTail, writeItem}
 use Rattle.octets.proofs.OctetLaws.{both, both-left, both-right}
 use Rattle.messages.specs.Messages.{Field, code, item, kind, Row, plain, optional, uncovered, unknown, row, covers}
 use Rattle.octets.specs.Bits.{putBits}
-use Rattle.messages.specs.Codec.{leftAfter, fitsField, putField, fitsFields, putFields, Msg, chosen, bit, fitsRow, putRow, octetsOfMsg, Outcome, ok, refuse, sized, encode}
-use Rattle.messages.proofs.CodecLaws.{sound-field, sound-fields, fields-bound, fits-length}
+use Rattle.messages.specs.Codec.{leftAfter, fitsField, putField, fitsFields, putFields, Msg, chosen, bit, putRow, octetsOfMsg, Outcome, ok, refuse, sized, inTail, inRange, encode}
+use Rattle.messages.proofs.CodecLaws.{sound-field, sound-fields, fields-bound, fits-length, tail-in}
 use Rattle.octets.specs.Places.{leftAt, placed, Puts, Clear}
 use Rattle.messages.specs.Columns.{fieldsOf, tailOf, tailAt, countAt, formAt, rowFrom, lastField}
 use Rattle.writer.specs.Writing.{pickWrote, fieldEnd, fieldsEnd, fieldsUpto, tailUpto, PutsFields, headed, PutsHead, itemsFor, given, extent, filled, Encodes, atMost, bodyUpto}
@@ -23,6 +23,7 @@ use Rattle.writer.specs.declared.Wrote.the-variants.{Upto, Not}
 use Rattle.octets.proofs.Bits.{next-within, next-across}
 use Rattle.messages.proofs.ColumnLaws.{length-fields, row-from, one-more, no-tail, count-few, count-one-more, known}
 use Rattle.writer.proofs.PutLaws.{clear-none}
+use Rattle.writer.proofs.TailLaws.{short-fits, long-string}
 use Rattle.writer.proofs.FieldLaws.{left-end, sound-these, fields-grow}
 
 clash : {n k : ℕ} → Upto n ≡ Not k → ⊥
@@ -69,36 +70,39 @@ fields-upto [] (v ∷ vs) at = refl
 fields-upto (f ∷ fs) [] at = refl
 fields-upto (f ∷ fs) (v ∷ vs) at = pick-both (fitsField f v) (fitsFields fs vs) _ _ (fields-upto fs vs (fieldEnd f v at))
 
-module _ (at : ℕ) (fs : List Field) (t : Tail) (vs items : List ℕ) where
-  joined-is : joined (fieldsUpto fs vs at) (tailUpto t items) ≡ bodyUpto at fs t vs items
+module _ (at : ℕ) (fs : List Field) (k : ℕ) (vs items : List ℕ) where
+  joined-is : joined (fieldsUpto fs vs at) (tailUpto (tailOf k) items) ≡ bodyUpto at fs (tailOf k) vs items
   unfolding joined bodyUpto tailUpto
-  joined-is = rw (fields-upto fs vs at) (go (fitsFields fs vs) (fitsTail t items) refl refl)
+  joined-is = rw (fields-upto fs vs at) (go (fitsFields fs vs) (inTail (tailOf k) items) (fitsTail (tailOf k) items) refl refl refl)
     where
-      go : (a b : Bool) → fitsFields fs vs ≡ a → fitsTail t items ≡ b
-          → joined (pickWrote (fitsFields fs vs) (Upto (fieldsEnd fs vs at)) (Not 8)) (pickWrote (fitsTail t items) (Upto (length (writeTail t items))) (Not 8))
-          ≡ pickWrote (fitsFields fs vs && fitsTail t items) (atMost ((fieldsEnd fs vs at + 7) / 8 + length (writeTail t items))) (Not 8)
-      go true true p q = simp (p, q)
-      go true false p q = simp (p, q)
-      go false b p q = simp p
+      go : (a b c : Bool) → fitsFields fs vs ≡ a → inTail (tailOf k) items ≡ b → fitsTail (tailOf k) items ≡ c
+          → joined (pickWrote (fitsFields fs vs) (Upto (fieldsEnd fs vs at)) (Not 8))
+          (pickWrote (inTail (tailOf k) items) (pickWrote (fitsTail (tailOf k) items) (Upto (length (writeTail (tailOf k) items))) (Not 4)) (Not 8))
+          ≡ pickWrote (fitsFields fs vs && inTail (tailOf k) items) (atMost ((fieldsEnd fs vs at + 7) / 8 + length (writeTail (tailOf k) items))) (Not 8)
+      go true true true p q r = simp (p, q, r)
+      go true true false p q r =
+          simp (p, q, r, lt-leb ((fieldsEnd fs vs at + 7) / 8 + length (writeTail (tailOf k) items)) message-limit (omega (arith, long-string k items q r)))
+      go true false c p q r = simp (p, q)
+      go false b c p q r = simp p
 
   module _ (f : Wrote) (e : f ≡ fieldsUpto fs vs at) where
-    pub body-not : (n : ℕ) → f ≡ Not n → Not n ≡ bodyUpto at fs t vs items
+    pub body-not : (n : ℕ) → f ≡ Not n → Not n ≡ bodyUpto at fs (tailOf k) vs items
     unfolding joined
-    body-not n k = ap (λ x. joined x (tailUpto t items)) (sym k ∙ e) ∙ joined-is
+    body-not n g = ap (λ x. joined x (tailUpto (tailOf k) items)) (sym g ∙ e) ∙ joined-is
 
-    module _ (u : Wrote) (g : u ≡ tailUpto t items) (end : ℕ) (k : f ≡ Upto end) where
-      pub body-tail-not : (n : ℕ) → u ≡ Not n → Not n ≡ bodyUpto at fs t vs items
+    module _ (u : Wrote) (g : u ≡ tailUpto (tailOf k) items) (end : ℕ) (to : f ≡ Upto end) where
+      pub body-tail-not : (n : ℕ) → u ≡ Not n → Not n ≡ bodyUpto at fs (tailOf k) vs items
       unfolding joined
-      body-tail-not n l = ap (λ x. joined (Upto end) x) (sym l ∙ g) ∙ ap (λ x. joined x (tailUpto t items)) (sym k ∙ e) ∙ joined-is
+      body-tail-not n l = ap (λ x. joined (Upto end) x) (sym l ∙ g) ∙ ap (λ x. joined x (tailUpto (tailOf k) items)) (sym to ∙ e) ∙ joined-is
 
-      body-both : (n : ℕ) → u ≡ Upto n → atMost ((end + 7) / 8 + n) ≡ bodyUpto at fs t vs items
+      body-both : (n : ℕ) → u ≡ Upto n → atMost ((end + 7) / 8 + n) ≡ bodyUpto at fs (tailOf k) vs items
       unfolding joined
-      body-both n l = ap (λ x. joined (Upto end) x) (sym l ∙ g) ∙ ap (λ x. joined x (tailUpto t items)) (sym k ∙ e) ∙ joined-is
+      body-both n l = ap (λ x. joined (Upto end) x) (sym l ∙ g) ∙ ap (λ x. joined x (tailUpto (tailOf k) items)) (sym to ∙ e) ∙ joined-is
 
-      pub body-fine : (n : ℕ) → u ≡ Upto n → (end + 7) / 8 + n ≤ message-limit → Upto ((end + 7) / 8 + n) ≡ bodyUpto at fs t vs items
+      pub body-fine : (n : ℕ) → u ≡ Upto n → (end + 7) / 8 + n ≤ message-limit → Upto ((end + 7) / 8 + n) ≡ bodyUpto at fs (tailOf k) vs items
       body-fine n l m = rw (le-leb ((end + 7) / 8 + n) message-limit m) at (body-both n l)
 
-      pub body-over : (n : ℕ) → u ≡ Upto n → message-limit < (end + 7) / 8 + n → Not 4 ≡ bodyUpto at fs t vs items
+      pub body-over : (n : ℕ) → u ≡ Upto n → message-limit < (end + 7) / 8 + n → Not 4 ≡ bodyUpto at fs (tailOf k) vs items
       body-over n l m = rw (lt-leb ((end + 7) / 8 + n) message-limit m) at (body-both n l)
 
 -- how many octets the fields take
@@ -133,11 +137,11 @@ unfoldable pub answer : Bool → List ℕ → Outcome (List ℕ)
 answer fits os = cond fits (cond (sized os) (ok os) (refuse 4)) (refuse 8)
 
 unfoldable pub said : ℕ → ℕ → Bool → List Field → Tail → List ℕ → List ℕ → Outcome (List ℕ)
-said n form present fs t vs items = answer (fitsFields fs vs && fitsTail t items) (wholeBy n form present fs t vs items)
+said n form present fs t vs items = answer (fitsFields fs vs && inTail t items) (wholeBy n form present fs t vs items)
 
 outcome : ℕ → Row → List ℕ → List ℕ → Outcome (List ℕ)
 outcome n R vs items =
-    cond (covers R) (answer (fitsRow R vs items) (putField kind 0 n (putRow R vs items) .1)) (refuse 7)
+    cond (covers R) (answer (inRange R vs items) (putField kind 0 n (putRow R vs items) .1)) (refuse 7)
 
 length-whole : (n form : ℕ) (present : Bool) (fs : List Field) (t : Tail) (vs items : List ℕ) → form ≤ 1 → sound-fields fs ≡ true → fitsFields fs vs ≡ true
     → length (wholeBy n form present fs t vs items) ≡ (fieldsEnd fs vs (6 + form) + 7) / 8 + length (writeTail t items)
@@ -167,14 +171,14 @@ misfit fs vs k = go (fitsFields fs vs) refl
 
 said-misfit : (n form : ℕ) (p : Bool) (fs : List Field) (t : Tail) (vs items : List ℕ) → (length vs ≡ length fs → ⊥) → said n form p fs t vs items ≡ refuse 8
 unfolding said answer
-said-misfit n form p fs t vs items k = ap (λ b. answer (b && fitsTail t items) (wholeBy n form p fs t vs items)) (misfit fs vs k)
+said-misfit n form p fs t vs items k = ap (λ b. answer (b && inTail t items) (wholeBy n form p fs t vs items)) (misfit fs vs k)
 
 said-fine : {fits : Bool} {os : List ℕ} → fits ≡ true → 0 < length os → length os ≤ message-limit → answer fits os ≡ ok os
 unfolding answer
 said-fine {fits} {os} e a b = simp (e, lt-ltb 0 (length os) a, le-leb (length os) message-limit b)
 
 opened : (at : ℕ) (fs : List Field) (t : Tail) (vs items : List ℕ) {w : Wrote} → bodyUpto at fs t vs items ≡ w
-    → pickWrote (fitsFields fs vs && fitsTail t items) (atMost ((fieldsEnd fs vs at + 7) / 8 + length (writeTail t items))) (Not 8) ≡ w
+    → pickWrote (fitsFields fs vs && inTail t items) (atMost ((fieldsEnd fs vs at + 7) / 8 + length (writeTail t items))) (Not 8) ≡ w
 unfolding bodyUpto
 opened at fs t vs items e = e
 
@@ -291,8 +295,8 @@ module _ (n : ℕ) (vs items : List ℕ) where
       unfolding said bodyUpto
       size-is =
           ap extent encode-said
-          ∙ extent-answer (fitsFields (fieldsOf n (length vs)) vs && fitsTail (tailOf (tailAt n)) items) _ _
-          (λ f. length-whole n (formAt n) _ (fieldsOf n (length vs)) (tailOf (tailAt n)) vs items l (sound-these n (length vs)) (both-left (fitsFields (fieldsOf n (length vs)) vs) (fitsTail (tailOf (tailAt n)) items) f))
+          ∙ extent-answer (fitsFields (fieldsOf n (length vs)) vs && inTail (tailOf (tailAt n)) items) _ _
+          (λ f. length-whole n (formAt n) _ (fieldsOf n (length vs)) (tailOf (tailAt n)) vs items l (sound-these n (length vs)) (both-left (fitsFields (fieldsOf n (length vs)) vs) (inTail (tailOf (tailAt n)) items) f))
           (some-octets (6 + formAt n) _ (fieldsOf n (length vs)) vs (omega arith))
 
 -- a message that has a size
@@ -314,13 +318,14 @@ module _ (n : ℕ) (vs items : List ℕ) (size : ℕ) where
   fine e = at-form (leb (formAt n) 1) refl
     where
       at-end : (l : formAt n ≤ 1) (a : countAt n ≤ length vs) (b : length vs ≤ countAt n + formAt n)
-          (f g m : Bool) → fitsFields (fieldsOf n (length vs)) vs ≡ f → fitsTail (tailOf (tailAt n)) items ≡ g
+          (f g m : Bool) → fitsFields (fieldsOf n (length vs)) vs ≡ f → inTail (tailOf (tailAt n)) items ≡ g
           → leb ((fieldsEnd (fieldsOf n (length vs)) vs (6 + formAt n) + 7) / 8 + length (writeTail (tailOf (tailAt n)) items)) message-limit ≡ m
           → pickWrote (f && g) (pickWrote m (Upto ((fieldsEnd (fieldsOf n (length vs)) vs (6 + formAt n) + 7) / 8 + length (writeTail (tailOf (tailAt n)) items))) (Not 4)) (Not 8) ≡ Upto size
           → Fine n vs items size
       at-end l a b true true true p q r e =
           let z : (fieldsEnd (fieldsOf n (length vs)) vs (6 + formAt n) + 7) / 8 + length (writeTail (tailOf (tailAt n)) items) ≡ size = cc in
-          record { below = omega (arith, known n (omega arith)); form = l; least = a; most = b; fits = p; tail = q; takes = z; short = omega (arith, z, leb-true ((fieldsEnd (fieldsOf n (length vs)) vs (6 + formAt n) + 7) / 8 + length (writeTail (tailOf (tailAt n)) items)) message-limit r) }
+          let few = leb-true ((fieldsEnd (fieldsOf n (length vs)) vs (6 + formAt n) + 7) / 8 + length (writeTail (tailOf (tailAt n)) items)) message-limit r in
+          record { below = omega (arith, known n (omega arith)); form = l; least = a; most = b; fits = p; tail = short-fits (tailAt n) items q (omega arith); takes = z; short = omega arith }
       at-end l a b true true false p q r e = absurd (clash (sym e))
       at-end l a b true false m p q r e = absurd (clash (sym e))
       at-end l a b false g m p q r e = absurd (clash (sym e))
@@ -359,7 +364,7 @@ module _ {n : ℕ} {vs items : List ℕ} {size : ℕ} (o : Fine n vs items size)
   fine-encode =
       let l = length-whole n (formAt n) (ltb (countAt n) (length vs)) (fieldsOf n (length vs)) (tailOf (tailAt n)) vs items (o .form) (sound-these n (length vs)) (o .fits) in
       encode-said n vs items (o .form) (o .least) (o .most)
-      ∙ said-fine (both (o .fits) (o .tail)) (omega (arith, l, o .takes, fine-some)) (omega (arith, l, o .takes, o .short))
+      ∙ said-fine (both (o .fits) (tail-in (tailOf (tailAt n)) items (o .tail))) (omega (arith, l, o .takes, fine-some)) (omega (arith, l, o .takes, o .short))
 
   module _ {form present : ℕ} {s s1 : List ℕ} {at : ℕ} (f : form ≡ formAt n) (p : PutsHead n form present s s1 at) where
     pub fine-room : length s ≡ size → fieldsEnd (fieldsOf n (length vs)) vs at ≤ length s1 * 8

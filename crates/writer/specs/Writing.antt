@@ -8,7 +8,7 @@ use lib.ListN.{length, take, drop}
 use Rattle.messages.specs.Limits.{list-limit, string-limit, message-limit}
 use Rattle.octets.specs.Octets.{Item, anOctet, anId, writeItem, Tail, fitsTail, writeTail}
 use Rattle.messages.specs.Messages.{Field, code, item}
-use Rattle.messages.specs.Codec.{leftAfter, fitsField, putField, fitsFields, putFields, Msg, Outcome, ok, refuse, encode}
+use Rattle.messages.specs.Codec.{leftAfter, fitsField, putField, fitsFields, putFields, Msg, Outcome, ok, refuse, inTail, encode}
 use Rattle.octets.specs.Bits.{putBits}
 use Rattle.octets.specs.Places.{leftAt, placed, Clear}
 use Rattle.messages.specs.Columns.{tailAt}
@@ -49,9 +49,9 @@ fieldsUpto [] (v ∷ vs) at = Not 8
 fieldsUpto (f ∷ fs) [] at = Not 8
 fieldsUpto (f ∷ fs) (v ∷ vs) at = pickWrote (fitsField f v) (fieldsUpto fs vs (fieldEnd f v at)) (Not 8)
 
--- the octets of what follows the fields
+-- the octets of what follows the fields, or 8; or 4 for a string beyond its limit, and so beyond a message's
 unfoldable pub tailUpto : Tail → List ℕ → Wrote
-tailUpto t items = pickWrote (fitsTail t items) (Upto (length (writeTail t items))) (Not 8)
+tailUpto t items = pickWrote (inTail t items) (pickWrote (fitsTail t items) (Upto (length (writeTail t items))) (Not 4)) (Not 8)
 
 -- a field in range may be written at a bit: there is room, and what is left of an octet begun is 0
 pub record MayPut (s : List ℕ) (at : ℕ) (f : Field) (v : ℕ) : Type 0 where
@@ -124,7 +124,7 @@ atMost n = pickWrote (leb n message-limit) (Upto n) (Not 4)
 
 unfoldable pub bodyUpto : ℕ → List Field → Tail → List ℕ → List ℕ → Wrote
 bodyUpto at fs t vs items =
-    pickWrote (fitsFields fs vs && fitsTail t items) (atMost ((fieldsEnd fs vs at + 7) / 8 + length (writeTail t items))) (Not 8)
+    pickWrote (fitsFields fs vs && inTail t items) (atMost ((fieldsEnd fs vs at + 7) / 8 + length (writeTail t items))) (Not 8)
 
 abbrev pub Encodes : Msg → List ℕ → Wrote → List ℕ → Type 0
 Encodes m s r s′ = _≡_ {A = Wrote × List ℕ} (r, s′) (filled (encode m) s)

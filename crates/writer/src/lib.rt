@@ -291,7 +291,7 @@ fn put_item(s: &mut [u8], i: usize, kind: u8, v: u32) -> usize
     }
 }
 
-// How many octets what follows the fields takes, or 8.
+// How many octets what follows the fields takes; or 8; or 4 for a string beyond any message.
 fn tail_size(kind: u8, ids: &[u16], octets: &[u8]) -> Wrote
     ensures { λ r. ⌜ (r ≡ tailUpto (tailOf kind) (itemsFor kind (now (ids .entry)) (now (octets .entry)))) × Below 40000 r ⌝ }
 {
@@ -303,6 +303,9 @@ fn tail_size(kind: u8, ids: &[u16], octets: &[u8]) -> Wrote
         return Wrote::Not(8);
     }
     if limit_of(kind) < n {
+        if kind == 3 {
+            return Wrote::Not(4);
+        }
         return Wrote::Not(8);
     }
     let mut i = 0;
