@@ -1,0 +1,26 @@
+-- The parts of a farewell, under a name each.
+use Prim.Native.Nat.{ℕ}
+use mathlib.Core.List.{List, []}
+use Rattle.places.specs.Sets.{if_then_else_, null, each}
+use Rattle.places.specs.Places.{find, load}
+use Rattle.messages.specs.Named.{DUin}
+use Rattle.records.specs.Records.{Sent, tell}
+use Rattle.domain.specs.declared.channel.Kind.{Kind}
+use Rattle.domain.specs.Cells.{no-channel, kind}
+use Rattle.domain.specs.Tables.{Users, Channels, Tokens, state}
+use Rattle.domain.specs.Leaving.{ended, returned}
+
+-- DUin by connection, none where nobody leaves
+abbrev pub parting : (live reason : ℕ) (ids : List ℕ) → List Sent
+parting live reason ids = if null ids then [] else tell live (DUin reason ids)
+
+-- the kind of channel c
+abbrev pub kind-at : Channels → ℕ → Kind
+kind-at cs c = kind (load (cs .cells) (find (cs .ids) c) no-channel)
+
+-- CDin for channel c, and TVcf for token k
+abbrev pub end-at : (us : Users) (cs : Channels) (gone live c : ℕ) → List Sent
+end-at us cs gone live c = ended us gone live c (kind-at cs c)
+
+abbrev pub return-at : (us : Users) (ts : Tokens) (gone k : ℕ) → List Sent
+return-at us ts gone k = returned us gone k (state ts k)

@@ -1,0 +1,273 @@
+// The records that tell of users who leave: DUin by connection, CDin by channel, TVcf by token.
+ghost use mathlib.Core.Path.{_≡_};
+ghost use mathlib.Core.List.{[], _∷_};
+ghost use Prim.Native.Nat.{ℕ, _+_, _≤_};
+ghost use lib.ListN.{length, take, getD};
+ghost use Rattle.places.specs.Sets.{each};
+ghost use Rattle.places.specs.Places.{inOrder};
+ghost use Rattle.messages.specs.Named.{TVcf, no-such-user};
+ghost use Rattle.records.specs.Records.{to, records as recordsOf};
+ghost use Rattle.records.specs.Out.{Puts};
+ghost use Rattle.domain.specs.declared.Limits.{Limits};
+ghost use Rattle.domain.specs.declared.token.Holding.the-variants.{Giving};
+ghost use Rattle.domain.specs.Tables.{users-of, channels-of, tokens-of, domain-of, name, link};
+ghost use Rattle.domain.specs.Tokens.{status as statusOf, lose as loseOf};
+ghost use Rattle.domain.specs.Leaving.{ended, returned, farewell as farewellOf};
+ghost use Rattle.farewell.specs.Parts.{parting, kind-at, end-at, return-at};
+use domain::channel::Kind;
+use domain::numbers::Result;
+use domain::token::Holding;
+use records::compose::Confirm;
+
+// DUin to the connections that remain, none where nobody leaves.
+fn put_parting(out: &mut [u8], live: u16, reason: u8, ids: &[u16]) -> usize
+    requires { ⌜ length (now ids) ≤ 64 ⌝ }
+    ensures { λ r. ⌜ (Puts (now (out .entry)) 0 (recordsOf (parting live reason (now (ids .entry)))) (now (out .exit)) r) × (r ≤ 2160) ⌝ }
+{
+    if ids.len() == 0 {
+        return 0;
+    }
+    let mut m = [0u8; 131];
+    let n = records::compose::detach_indication(&mut m, reason, ids);
+    records::tell(out, 0, live, &m[..n])
+}
+
+// The same with the first `count` of a list.
+fn put_first(out: &mut [u8], live: u16, reason: u8, list: &[u16; 64], count: usize) -> usize
+    ensures { λ r. ⌜ (Puts (now (out .entry)) 0 (recordsOf (parting live reason (take count (now (list .entry))))) (now (out .exit)) r) × (r ≤ 2160) ⌝ }
+{
+    let all = &list[..];
+    if count < all.len() {
+        return put_parting(out, live, reason, &all[..count]);
+    }
+    put_parting(out, live, reason, all)
+}
+
+// The kind of channel c.
+fn kind_of(
+    ids: &[u16; 128],
+    roles: &[u8; 128],
+    chairs: &[u8; 128],
+    guests: &[u64; 128],
+    marks: &[u16; 128],
+    c: u16,
+) -> Kind
+    ensures { λ r. ⌜ r ≡ kind-at (channels-of (now (ids .entry)) (now (roles .entry)) (now (chairs .entry)) (now (guests .entry)) (now (marks .entry))) c ⌝ }
+{
+    // How long the columns are: behind the last place a channel is blank.
+    let n = ids[..].len();
+    let m = roles[..].len();
+    let j = places::columns::find(ids, c);
+    domain::channel::kind_of(tables::channels::channel_at(roles, chairs, guests, marks, j))
+}
+
+// CDin to those that remain of the connections that held the manager g or an admitted user.
+fn put_ended(
+    out: &mut [u8],
+    at: usize,
+    names: &[u16; 64],
+    homes: &[u8; 64],
+    gone: u64,
+    live: u16,
+    c: u16,
+    k: Kind,
+) -> usize
+    requires { ⌜ at ≤ 65535 ⌝ }
+    ensures { λ r. ⌜ Puts (now (out .entry)) at (recordsOf (ended (users-of (now (names .entry)) (now (homes .entry))) gone live c k)) (now (out .exit)) r ⌝ }
+{
+    match k {
+        Kind::Private(g, guests) => {
+            if places::masks::has(gone, g) {
+                let held = tables::users::hosts(names, homes, places::masks::with_seat(guests, g));
+                let told = places::masks::common_links(held, live);
+                let m = records::compose::disband_indication(c);
+                return records::tell(out, at, told, &m);
+            }
+            at
+        }
+        Kind::Static => at,
+        Kind::User => at,
+        Kind::Assigned => at,
+    }
+}
+
+// CDin for each channel that ends, ascending.
+fn put_ends(
+    out: &mut [u8],
+    from: usize,
+    names: &[u16; 64],
+    homes: &[u8; 64],
+    ids: &[u16; 128],
+    roles: &[u8; 128],
+    chairs: &[u8; 128],
+    guests: &[u64; 128],
+    marks: &[u16; 128],
+    gone: u64,
+    live: u16,
+) -> usize
+    requires { ⌜ from ≤ 4096 ⌝ }
+    ensures { λ r. ⌜ (Puts (now (out .entry)) from (recordsOf (each (end-at (users-of (now (names .entry)) (now (homes .entry)))
+        (channels-of (now (ids .entry)) (now (roles .entry)) (now (chairs .entry)) (now (guests .entry)) (now (marks .entry))) gone live)
+        (inOrder (now (ids .entry))))) (now (out .exit)) r) × (r ≤ from + 14336) ⌝ }
+{
+    let mut at = from;
+    let mut low: u16 = 0;
+    let mut left = ids[..].len();
+    while 0 < left {
+        let c = places::columns::next(ids, low);
+        if c == 0 {
+            return at;
+        }
+        let k = kind_of(ids, roles, chairs, guests, marks, c);
+        at = put_ended(out, at, names, homes, gone, live, c, k);
+        low = c;
+        left -= 1;
+    }
+    at
+}
+
+// The id of the user at a place, and its connection; 16 is no connection.
+fn name_at(names: &[u16; 64], i: u8) -> u16
+    ensures { λ r. ⌜ r ≡ getD (now (names .entry)) i 0 ⌝ }
+{
+    let s = &names[..];
+    let j = i as usize;
+    if j < s.len() {
+        return s[j];
+    }
+    0
+}
+
+fn home_at(homes: &[u8; 64], i: u8) -> u8
+    ensures { λ r. ⌜ r ≡ getD (now (homes .entry)) i 16 ⌝ }
+{
+    let s = &homes[..];
+    let j = i as usize;
+    if j < s.len() {
+        return s[j];
+    }
+    16
+}
+
+// TVcf no-such-user to the giver g.
+fn put_refusal(
+    out: &mut [u8],
+    at: usize,
+    names: &[u16; 64],
+    homes: &[u8; 64],
+    gone: u64,
+    k: u16,
+    g: u8,
+    r: u8,
+) -> usize
+    requires { ⌜ at ≤ 65535 ⌝ }
+    ensures { λ n. ⌜ Puts (now (out .entry)) at (recordsOf (to (link (users-of (now (names .entry)) (now (homes .entry))) g)
+        (TVcf no-such-user (name (users-of (now (names .entry)) (now (homes .entry))) g) k (statusOf (loseOf gone (Giving g r)) g)) ∷ [])) (now (out .exit)) n ⌝ }
+{
+    let h = domain::token::lose(gone, Holding::Giving(g, r));
+    let s = domain::numbers::status_number(domain::token::status(h, g));
+    let n = domain::numbers::result_number(Result::NoSuchUser);
+    let m = records::compose::token_confirm(Confirm::Give, n, name_at(names, g), k, s);
+    records::send(out, at, home_at(homes, g), &m)
+}
+
+// The same where the recipient leaves and the giver stays.
+fn put_returned(
+    out: &mut [u8],
+    at: usize,
+    names: &[u16; 64],
+    homes: &[u8; 64],
+    gone: u64,
+    k: u16,
+    h: Holding,
+) -> usize
+    requires { ⌜ at ≤ 65535 ⌝ }
+    ensures { λ r. ⌜ Puts (now (out .entry)) at (recordsOf (returned (users-of (now (names .entry)) (now (homes .entry))) gone k h)) (now (out .exit)) r ⌝ }
+{
+    match h {
+        Holding::Giving(g, r) => {
+            if places::masks::has(gone, r) {
+                if places::masks::has(gone, g) {
+                    return at;
+                }
+                return put_refusal(out, at, names, homes, gone, k, g, r);
+            }
+            at
+        }
+        Holding::Free => at,
+        Holding::Grabbed(_) => at,
+        Holding::Inhibited(_) => at,
+        Holding::Given(_) => at,
+    }
+}
+
+// TVcf for each token that returns to its giver, ascending.
+fn put_returns(
+    out: &mut [u8],
+    from: usize,
+    names: &[u16; 64],
+    homes: &[u8; 64],
+    keys: &[u16; 64],
+    modes: &[u8; 64],
+    values: &[u64; 64],
+    gone: u64,
+) -> usize
+    requires { ⌜ from ≤ 32768 ⌝ }
+    ensures { λ r. ⌜ Puts (now (out .entry)) from (recordsOf (each (return-at (users-of (now (names .entry)) (now (homes .entry)))
+        (tokens-of (now (keys .entry)) (now (modes .entry)) (now (values .entry))) gone) (inOrder (now (keys .entry))))) (now (out .exit)) r ⌝ }
+{
+    let mut at = from;
+    let mut low: u16 = 0;
+    let mut left = keys[..].len();
+    while 0 < left {
+        let k = places::columns::next(keys, low);
+        if k == 0 {
+            return at;
+        }
+        let h = tables::tokens::state(keys, modes, values, k);
+        at = put_returned(out, at, names, homes, gone, k, h);
+        low = k;
+        left -= 1;
+    }
+    at
+}
+
+// The users at the places `gone` leave and the connections `live` remain: DUin with the first `count` of the ids, then CDin, then TVcf.
+pub fn farewell(
+    out: &mut [u8],
+    names: &[u16; 64],
+    homes: &[u8; 64],
+    ids: &[u16; 128],
+    roles: &[u8; 128],
+    chairs: &[u8; 128],
+    guests: &[u64; 128],
+    marks: &[u16; 128],
+    keys: &[u16; 64],
+    modes: &[u8; 64],
+    values: &[u64; 64],
+    gone: u64,
+    live: u16,
+    reason: u8,
+    list: &[u16; 64],
+    count: usize,
+) -> usize
+    ensures { λ r. ⌜ ((l : Limits) → (links : ℕ) → Puts (now (out .entry)) 0 (recordsOf (farewellOf (domain-of l links (now (names .entry)) (now (homes .entry))
+        (now (ids .entry)) (now (roles .entry)) (now (chairs .entry)) (now (guests .entry)) (now (marks .entry))
+        (now (keys .entry)) (now (modes .entry)) (now (values .entry))) gone live reason (take count (now (list .entry))))) (now (out .exit)) r) ⌝ }
+{
+    let a = put_first(out, live, reason, list, count);
+    let b = put_ends(
+        out,
+        a,
+        names,
+        homes,
+        ids,
+        roles,
+        chairs,
+        guests,
+        marks,
+        gone,
+        live,
+    );
+    put_returns(out, b, names, homes, keys, modes, values, gone)
+}

@@ -1,0 +1,241 @@
+-- Who leaves: a list that grows id by id, and the mask of its places.
+use mathlib.Core.Path.{_≡_, refl, sym, ap, _∙_}
+use mathlib.Core.Bool.{Bool, true, false, _&&_, _||_, or-false, or-true}
+use mathlib.Core.List.{List, [], _∷_, _++_, append-nil, append-assoc}
+use Prim.Native.Nat.{ℕ, zero, suc, _+_, _-_, _^_, _≤_, _<_, zero-le}
+use native.Mathlib.Numerals.{add-one}
+use native.Mathlib.Omega.{arith}
+use borrow.Author.Tests.{lt-ltb, le-ltb, ltb-true, ltb-false, eqb-true, eqb-false}
+use lib.Dec.{eqb, ltb}
+use lib.ListN.{length, getD, set, take, drop, drop-of-length-le, length-set}
+use lib.Seq.{take-suc, take-suc-set, drop-cons}
+use Rattle.places.specs.Sets.{if_then_else_, keep, any, null, member, firsts, once, has, those, with, seats}
+use Rattle.places.specs.Places.{Place, At, Nowhere, find, found, number, next, rising, inOrder}
+use Rattle.places.proofs.Answers.{Inside, find-inside, number-at, number-none}
+use Rattle.places.proofs.Turns.{keep-append, rising-turn, rising-end}
+use Rattle.places.proofs.Digits.{has-high, has-with, is-those, those-lt}
+use Rattle.domain.specs.Tables.{Users, users-of, name, link, attached}
+use Rattle.domain.specs.Channels.{places}
+use Rattle.domain.specs.Leaving.{those-on}
+use Rattle.leaving.specs.Lists.{Holds, Grows, fresh}
+
+-- ---- a user attached on p
+unfoldable pub on : (us : Users) (p u : ℕ) → Bool
+on us p u = found (attached us p u)
+
+chosen : (us : Users) (p : ℕ) (w : Place) → Place
+chosen us p w = elim w [ At i ↦ if eqb (link us i) p then At i else Nowhere | Nowhere ↦ Nowhere ]
+
+module _ (names homes : List ℕ) (p u r : ℕ) (e : r ≡ number 64 (attached (users-of names homes) p u)) where
+  pub attached-yes : r < 64 → on (users-of names homes) p u ≡ true
+  unfolding on found
+  attached-yes h = ap found (number-at 64 (attached (users-of names homes) p u) r e h)
+
+  inside : length names ≡ 64 → Inside 64 (attached (users-of names homes) p u)
+  unfolding attached chosen
+  inside size i = go (find names u) refl
+    where
+      pick : (j : ℕ) → j < 64 → (b : Bool) → (if b then At j else Nowhere) ≡ At i → i < 64
+      pick j h true q = let z : j ≡ i = cc in omega arith
+      pick j h false q = absurd (let z : _≡_ {A = ℕ} 0 1 = cc in omega arith)
+
+      go : (w : Place) → find names u ≡ w → chosen (users-of names homes) p w ≡ At i → i < 64
+      go (At j) q = pick j (omega (arith, find-inside names u j q)) (eqb (link (users-of names homes) j) p)
+      go Nowhere q = λ z. absurd (let y : _≡_ {A = ℕ} 0 1 = cc in omega arith)
+
+  pub attached-no : length names ≡ 64 → 64 ≤ r → on (users-of names homes) p u ≡ false
+  unfolding on found
+  attached-no size h = ap found (number-none 64 (attached (users-of names homes) p u) r e (inside size) h)
+
+-- ---- the list with one id more, or as it was
+module _ (us : Users) (p u : ℕ) (xs : List ℕ) (n : ℕ) (h : n < length xs) where
+  pub grow-yes : on us p u ≡ true → Grows xs n (those-on us p (u ∷ [])) (set xs n u) (n + 1)
+  unfolding on those-on keep
+  grow-yes e = record { held = rw (add-one n, e) (take-suc-set xs n u h); few = omega arith; inside = omega (arith, length-set xs n u) }
+
+  pub grow-no : on us p u ≡ false → Grows xs n (those-on us p (u ∷ [])) xs n
+  unfolding on those-on keep
+  grow-no e = record { held = rw e (sym (append-nil (take n xs))); few = omega arith; inside = omega arith }
+
+module _ (us : Users) (p : ℕ) (ids : List ℕ) (i : ℕ) (xs : List ℕ) (n : ℕ) where
+  pub grow-again : n ≤ length xs → member (getD ids i 0) (take i ids) ≡ true → Grows xs n (those-on us p (fresh ids i)) xs n
+  unfolding fresh those-on keep
+  grow-again h e = record { held = rw e (sym (append-nil (take n xs))); few = omega arith; inside = h }
+
+  pub grow-first : {ys : List ℕ} {r : ℕ} → member (getD ids i 0) (take i ids) ≡ false → Grows xs n (those-on us p (getD ids i 0 ∷ [])) ys r → Grows xs n (those-on us p (fresh ids i)) ys r
+  unfolding fresh
+  grow-first e g = rw e g
+
+on-append : (us : Users) (p : ℕ) (xs ys : List ℕ) → those-on us p (xs ++ ys) ≡ those-on us p xs ++ those-on us p ys
+unfolding those-on
+on-append us p xs ys = keep-append (λ u. found (attached us p u)) xs ys
+
+on-none : (us : Users) (p : ℕ) → those-on us p [] ≡ []
+unfolding those-on keep
+on-none us p = refl
+
+-- what is held once more has come: `all` is what is held and what is left
+onward : (us : Users) (p : ℕ) (all : List ℕ) {xs : List ℕ} {n : ℕ} {ys : List ℕ} {r : ℕ} (more rest left : List ℕ) → Grows xs n (those-on us p more) ys r
+    → all ≡ take n xs ++ those-on us p left → left ≡ more ++ rest → all ≡ take r ys ++ those-on us p rest
+onward us p all {xs} {n} more rest left g e q =
+    e ∙ ap (λ (l : List ℕ). take n xs ++ those-on us p l) q ∙ ap (λ (l : List ℕ). take n xs ++ l) (on-append us p more rest)
+    ∙ sym (append-assoc (take n xs) (those-on us p more) (those-on us p rest)) ∙ ap (λ (l : List ℕ). l ++ those-on us p rest) (sym (g .held))
+
+holds : (us : Users) (p : ℕ) (all : List ℕ) {xs : List ℕ} {n : ℕ} (left : List ℕ) → all ≡ take n xs ++ those-on us p left → left ≡ [] → n ≤ 64 → n ≤ length xs → Holds xs n all
+holds us p all {xs} {n} left e z h k =
+    record { held = sym (e ∙ ap (λ (l : List ℕ). take n xs ++ those-on us p l) z ∙ ap (λ (l : List ℕ). take n xs ++ l) (on-none us p) ∙ append-nil (take n xs)); few = h; inside = k }
+
+-- ---- a loop over listed ids: `before` has those seen
+member-last : (y x : ℕ) (xs : List ℕ) → member y (xs ++ x ∷ []) ≡ (eqb y x || member y xs)
+unfolding member any
+member-last y x [] = refl
+member-last y x (z ∷ xs) = ap (λ (b : Bool). eqb y z || b) (member-last y x xs) ∙ swap (eqb y z) (eqb y x) (member y xs)
+  where
+    swap : (a b c : Bool) → (a || (b || c)) ≡ (b || (a || c))
+    swap true true c = refl
+    swap true false c = refl
+    swap false b c = refl
+
+pub record Picking (us : Users) (p : ℕ) (ids xs : List ℕ) (n i : ℕ) : Type 0 where
+  pub inside : i ≤ length ids
+  pub few : n ≤ i
+  pub room : n ≤ length xs
+  pub before : List ℕ
+  pub same : (y : ℕ) → member y before ≡ member y (take i ids)
+  pub left : those-on us p (once ids) ≡ take n xs ++ those-on us p (firsts before (drop i ids))
+
+pub pick-start : (us : Users) (p : ℕ) (ids xs : List ℕ) → Picking us p ids xs 0 0
+unfolding once
+pick-start us p ids xs = record { inside = zero-le; few = zero-le; room = zero-le; before = []; same = λ y. refl; left = refl }
+
+module _ (us : Users) (p : ℕ) (ids xs : List ℕ) (n i : ℕ) (s : Picking us p ids xs n i) where
+  pub pick-turn : {ys : List ℕ} {r : ℕ} → i < length ids → Grows xs n (those-on us p (fresh ids i)) ys r → Picking us p ids ys r (i + 1)
+  unfolding member any firsts fresh
+  pick-turn h g =
+      rw (add-one i)
+      (record {
+        inside = h;
+        few = omega (arith, g .few, s .few);
+        room = g .inside;
+        before = getD ids i 0 ∷ s .before;
+        same = seen;
+        left = onward us p (those-on us p (once ids)) (fresh ids i) (firsts (getD ids i 0 ∷ s .before) (drop (suc i) ids)) (firsts (s .before) (drop i ids)) g (s .left) first-on;
+      })
+    where
+      seen : (y : ℕ) → member y (getD ids i 0 ∷ s .before) ≡ member y (take (suc i) ids)
+      seen y = ap (λ (b : Bool). eqb y (getD ids i 0) || b) (s .same y) ∙ sym (ap (member y) (take-suc ids i 0 h) ∙ member-last y (getD ids i 0) (take i ids))
+
+      go : (b : Bool) (l : List ℕ) → (if b then l else getD ids i 0 ∷ l) ≡ (if b then [] else getD ids i 0 ∷ []) ++ l
+      go true l = refl
+      go false l = refl
+
+      first-on : firsts (s .before) (drop i ids) ≡ fresh ids i ++ firsts (getD ids i 0 ∷ s .before) (drop (suc i) ids)
+      first-on = rw (drop-cons ids i 0 h, s .same (getD ids i 0)) (go (member (getD ids i 0) (take i ids)) (firsts (getD ids i 0 ∷ s .before) (drop (suc i) ids)))
+
+  pub pick-end : length ids ≤ i → length ids ≤ 64 → Holds xs n (those-on us p (once ids))
+  unfolding firsts
+  pick-end h k = holds us p (those-on us p (once ids)) (firsts (s .before) (drop i ids)) (s .left) (rw (drop-of-length-le ids h) refl) (omega (arith, s .few, s .inside)) (s .room)
+
+-- ---- a loop over the users, ascending
+pub record Gathering (us : Users) (p : ℕ) (ids xs : List ℕ) (n low rest : ℕ) : Type 0 where
+  pub few : n + rest ≤ 64
+  pub room : n ≤ length xs
+  pub left : those-on us p (inOrder ids) ≡ take n xs ++ those-on us p (rising rest low ids)
+
+pub gather-start : (us : Users) (p : ℕ) (ids xs : List ℕ) (n : ℕ) → n ≡ length ids → length ids ≡ 64 → Gathering us p ids xs 0 0 n
+unfolding inOrder
+gather-start us p ids xs n e h = record { few = omega arith; room = zero-le; left = rw e refl }
+
+module _ (us : Users) (p : ℕ) (ids xs : List ℕ) (n low rest : ℕ) (s : Gathering us p ids xs n low rest) where
+  pub gather-turn : {ys : List ℕ} {r : ℕ} (u : ℕ) → u ≡ next low 0 ids → (u ≡ 0 → ⊥) → 0 < rest → Grows xs n (those-on us p (u ∷ [])) ys r → Gathering us p ids ys r u (rest - 1)
+  gather-turn u e z h g =
+      record {
+        few = omega (arith, g .few, s .few);
+        room = g .inside;
+        left = onward us p (those-on us p (inOrder ids)) (u ∷ []) (rising (rest - 1) u ids) (rising rest low ids) g (s .left) (go rest h);
+      }
+    where
+      go : (k : ℕ) → 0 < k → rising k low ids ≡ u ∷ rising (k - 1) u ids
+      go zero y = absurd (omega arith)
+      go (suc k) y = let q : suc k - 1 ≡ k = omega arith in rw q (rising-turn k low ids u (sym e) (omega arith))
+
+  pub gather-stop : (u : ℕ) → u ≡ next low 0 ids → u ≡ 0 → Holds xs n (those-on us p (inOrder ids))
+  unfolding rising
+  gather-stop u e z = holds us p (those-on us p (inOrder ids)) (rising rest low ids) (s .left) (go rest) (omega (arith, s .few)) (s .room)
+    where
+      go : (k : ℕ) → rising k low ids ≡ []
+      go zero = refl
+      go (suc k) = rising-end k low ids (sym e ∙ z)
+
+  pub gather-end : rest ≤ 0 → Holds xs n (those-on us p (inOrder ids))
+  unfolding rising
+  gather-end h = holds us p (those-on us p (inOrder ids)) (rising rest low ids) (s .left) (go rest h) (omega (arith, s .few)) (s .room)
+    where
+      go : (k : ℕ) → k ≤ 0 → rising k low ids ≡ []
+      go zero y = refl
+      go (suc k) y = absurd (omega arith)
+
+-- a list held is empty where n is 0, and only there
+module _ (xs : List ℕ) (n : ℕ) (ids : List ℕ) (h : Holds xs n ids) where
+  pub holds-none : n ≡ 0 → null ids ≡ true
+  unfolding null
+  holds-none e = rw (← h .held, e) refl
+
+  pub holds-some : (n ≡ 0 → ⊥) → null ids ≡ false
+  unfolding null
+  holds-some e = rw (← h .held) (go n xs e (h .inside))
+    where
+      go : (n : ℕ) (xs : List ℕ) → (n ≡ 0 → ⊥) → n ≤ length xs → null (take n xs) ≡ false
+      go zero xs z k = absurd (z refl)
+      go (suc n) [] z k = absurd (omega arith)
+      go (suc n) (x ∷ xs) z k = refl
+
+-- ---- a mask made place by place
+module _ (f : ℕ → Bool) where
+  pub record Marking (m i : ℕ) : Type 0 where
+    pub small : m < 2 ^ seats
+    pub marks : (k : ℕ) → k < seats → has m k ≡ (ltb k i && f k)
+
+  pub marking-start : Marking 0 0
+  marking-start = record { small = omega arith; marks = λ k h. has-high 0 0 k (omega arith) zero-le ∙ sym (ap (λ (b : Bool). b && f k) (le-ltb k 0 zero-le)) }
+
+  module _ (m i : ℕ) (s : Marking m i) where
+    next-ltb : (k : ℕ) → (i ≡ k → ⊥) → ltb k (i + 1) ≡ ltb k i
+    next-ltb k n = go (ltb k i) refl
+      where
+        go : (b : Bool) → ltb k i ≡ b → ltb k (i + 1) ≡ b
+        go true e = lt-ltb k (i + 1) (omega (arith, ltb-true k i e))
+        go false e = le-ltb k (i + 1) (let l : i ≤ k = ltb-false k i e in omega (arith, n))
+
+    elsewhere : (k : ℕ) → (i ≡ k → ⊥) → k < seats → has m k ≡ (ltb k (i + 1) && f k)
+    elsewhere k n l = s .marks k l ∙ ap (λ (b : Bool). b && f k) (sym (next-ltb k n))
+
+    here : (k : ℕ) → i ≡ k → (b : Bool) → f i ≡ b → (ltb k (i + 1) && f k) ≡ b
+    here k q b e = ap (λ (b : Bool). b && f k) (lt-ltb k (i + 1) (omega arith)) ∙ ap f (sym q) ∙ e
+
+    pub marking-turn : Marking (if f i then with seats m i else m) (i + 1)
+    unfolding with
+    marking-turn = go (f i) refl
+      where
+        go : (b : Bool) → f i ≡ b → Marking (if b then with seats m i else m) (i + 1)
+        go true e = record { small = those-lt seats _; marks = λ k l. has-with seats i k l m ∙ at k l (eqb i k) refl }
+          where
+            at : (k : ℕ) → k < seats → (b : Bool) → eqb i k ≡ b → (has m k || b) ≡ (ltb k (i + 1) && f k)
+            at k l true q = or-true (has m k) ∙ sym (here k (eqb-true i k q) true e)
+            at k l false q = or-false (has m k) ∙ elsewhere k (eqb-false i k q) l
+        go false e = record { small = s .small; marks = λ k l. at k l (eqb i k) refl }
+          where
+            at : (k : ℕ) → k < seats → (b : Bool) → eqb i k ≡ b → has m k ≡ (ltb k (i + 1) && f k)
+            at k l true q = s .marks k l ∙ ap (λ (b : Bool). b && f k) (le-ltb k i (omega (arith, eqb-true i k q))) ∙ sym (here k (eqb-true i k q) false e)
+            at k l false q = elsewhere k (eqb-false i k q) l
+
+  pub marking-end : (m i : ℕ) → Marking m i → seats ≤ i → m ≡ those seats f
+  marking-end m i s h = is-those seats m f (s .small) (λ k l. s .marks k l ∙ ap (λ (b : Bool). b && f k) (lt-ltb k i (omega arith)))
+
+-- the user at place i is listed
+abbrev pub leaves : (names ids : List ℕ) (i : ℕ) → Bool
+leaves names ids i = member (getD names i 0) ids
+
+pub places-marked : (names ids : List ℕ) (m i : ℕ) → Marking (leaves names ids) m i → 64 ≤ i → (homes : List ℕ) → m ≡ places (users-of names homes) ids
+unfolding places name
+places-marked names ids m i s h homes = marking-end (leaves names ids) m i s h

@@ -1,0 +1,5 @@
+pub mod Sweeps
+pub mod StoreLaws
+pub mod LeaverLaws
+pub mod ChannelLaws
+pub mod SettleLaws

@@ -1,0 +1,3 @@
+pub mod Swept
+pub mod Lists
+pub mod Fates

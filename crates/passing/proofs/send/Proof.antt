@@ -1,0 +1,17 @@
+use Rattle.passing.proofs.Settling.{one-done}
+use borrow.Author.Needs.{needs}
+use Rattle.passing.proofs.send.Statement.{statement}
+use Rattle.passing.proofs.send.Tie as tie
+
+put-record-requires : tie.Need-put-record-requires
+put-record-requires c κs = search needs
+
+same-length : tie.Need-same-length
+same-length c = search needs
+
+returns : tie.Need-returns
+returns c = λ x before after e. let a = c .before .before .before .before .before .before .args in
+    one-done before after (a .q) x (a .out .now) (a .m .now) _ _ (c .before .before .before .before .before .before .pre .0) (c .before .before .before .before .before .before .pre .1) (c .before .before .put-record .ensures) e
+
+pub send-spec : {M : Type 1} → statement M
+send-spec = tie.close (tie.spec put-record-requires same-length returns)
