@@ -9,18 +9,19 @@
 #include <time.h>
 
 uint32_t read_many(const uint8_t *octets, size_t length, uint32_t rounds);
-uint32_t write_many(uint32_t rounds);
+uint32_t write_many(uint8_t *room, size_t length, uint32_t number, uint32_t rounds);
 
 static const uint8_t grab[] = {0x74, 0x00, 0x06, 0x00, 0x00};
 static const uint8_t confirm[] = {0x7A, 0x40, 0x00, 0x06, 0x00, 0x00, 0x40};
 static uint8_t detach[131] = {0x30, 0x00, 0x40}; /* DUrq of 64 ids, all 1001 */
+static uint8_t room[16];
 static volatile uint32_t sink;
 static uint32_t rounds = 1000;
 
 static void read_grab(void) { sink = read_many(grab, sizeof grab, rounds); }
 static void read_confirm(void) { sink = read_many(confirm, sizeof confirm, rounds); }
 static void read_detach(void) { sink = read_many(detach, sizeof detach, rounds); }
-static void write_confirm(void) { sink = write_many(rounds); }
+static void write_confirm(void) { sink = write_many(room, sizeof room, 30, rounds); }
 static void nothing(void) {}
 
 static double now(void)

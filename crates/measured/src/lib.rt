@@ -13,24 +13,23 @@ pub extern "C" fn read_many(s: &[u8], rounds: u32) -> u32 {
     sum
 }
 
-// Writes a TGcf so many times, each for another token; the sum of the sizes.
+// Writes a message of a number (30, TGcf) into the room lent so many times, each for another token; the sum of the sizes.
 #[no_mangle]
-pub extern "C" fn write_many(rounds: u32) -> u32 {
+pub extern "C" fn write_many(out: &mut [u8], number: u32, rounds: u32) -> u32 {
     let mut sum: u32 = 0;
     let mut left = rounds;
     while 0 < left {
         left -= 1;
-        sum = std::num::wrapping_add_u32(sum, write_one(left % 65535 + 1));
+        sum = std::num::wrapping_add_u32(sum, write_one(number, left % 65535 + 1, out));
     }
     sum
 }
 
-fn write_one(token: u32) -> u32 {
-    let mut out = [0u8; 16];
+fn write_one(number: u32, token: u32, out: &mut [u8]) -> u32 {
     let values = [9, 1007, token, 2];
     let ids = [0u16; 0];
     let octets = [0u8; 0];
-    match writer::encode(30, &values, &ids, &octets, &mut out) {
+    match writer::encode(number, &values, &ids, &octets, out) {
         writer::Wrote::Upto(n) => (n % 256) as u32,
         writer::Wrote::Not(r) => r as u32,
     }
