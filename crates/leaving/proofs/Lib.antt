@@ -1,5 +1,2 @@
-pub mod Sweeps
-pub mod StoreLaws
 pub mod LeaverLaws
-pub mod ChannelLaws
 pub mod SettleLaws

@@ -1,8 +1,5 @@
 // Leaving: the users listed in a DUrq, or all those of a connection that closes. They leave together, judged on the tables before.
-mod channels;
 mod leavers;
-mod tokens;
-mod users;
 
 ghost use mathlib.Core.Path.{_≡_};
 ghost use Prim.Native.Nat.{_%_, _≤_};
@@ -87,9 +84,9 @@ fn leave(
         list,
         count,
     );
-    channels::leave(names, homes, ids, roles, chairs, guests, marks, gone, live);
-    users::leave(names, homes, gone);
-    tokens::leave(keys, modes, values, gone);
+    vacating::channels::leave(names, homes, ids, roles, chairs, guests, marks, gone, live);
+    vacating::users::leave(names, homes, gone);
+    vacating::tokens::leave(keys, modes, values, gone);
     *links = live;
     Answer {
         reply: Reply::Done,

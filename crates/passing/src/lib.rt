@@ -9,7 +9,7 @@ ghost use Rattle.messages.specs.Named.{Message};
 ghost use Rattle.records.specs.Records.{to, tell as tellOf, wire};
 ghost use Rattle.records.specs.Confirms.{confirm as confirmOf};
 ghost use Rattle.domain.specs.Tokens.{turnedOf, status as statusOf, grabbed-by};
-ghost use Rattle.domain.specs.Tables.{Tokens, users-of, tokens-of, name, link, attached, at-limit, state, set-token};
+ghost use Rattle.domain.specs.Tables.{Tokens, users-of, tokens-of, attached, at-limit, state, set-token};
 ghost use Rattle.domain.specs.Effects.{settle, answered, done};
 ghost use Rattle.domain.specs.Passing.{turn as turnOf, take-token, share-token, drop-token, offer as offerOf, answer as answerOf, please as pleaseOf, test as testOf, informed};
 use domain::answer::Answer;

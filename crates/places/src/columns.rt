@@ -5,19 +5,18 @@ ghost use lib.ListN.{length};
 ghost use Rattle.places.specs.Sets.{member as memberOf};
 ghost use Rattle.places.specs.Places.{first as firstIn, find as findIn, spare as spareIn, used as usedIn, next as nextIn, number, unused as unusedIn};
 
-// The first place that holds x: found last, since the loop goes down.
+// The first place that holds x. The ids in use stand low, so going up ends soon.
 fn first(ids: &[u16], x: u16) -> usize
     ensures { λ r. ⌜ r ≡ number (length (now (ids .entry))) (firstIn 0 x (now (ids .entry))) ⌝ }
 {
-    let mut i = ids.len();
-    let mut at = ids.len();
-    while 0 < i {
-        i -= 1;
+    let mut i = 0;
+    while i < ids.len() {
         if ids[i] == x {
-            at = i;
+            return i;
         }
+        i += 1;
     }
-    at
+    i
 }
 
 // The place of an id in use.

@@ -1,3 +1,6 @@
+use mathlib.Core.Path.{ap₂, _∙_}
+use mathlib.Core.Bool.{Bool}
+use Rattle.domain.specs.declared.token.Holding.{Holding}
 use Rattle.domain.specs.Tables.{users-of, tokens-of, state, at-limit}
 use Rattle.passing.proofs.Asking.{asks-ignored}
 use Rattle.messages.specs.Named.{TIcf}
@@ -35,7 +38,7 @@ returns-2 : tie.Need-returns-2
 unfolding share-token
 returns-2 c = let a = c .before .before .before .before .before .before .before .before .before .before .before .before .before .before .before .before .before .args in
     turns-from (users-of (a .names .now) (a .homes .now)) (tokens-of (a .keys .now) (a .modes .now) (a .values .now)) (a .p) (a .u) _ (a .k) TIcf (inhibit (at-limit (a .limit) (a .keys .now)) (state (tokens-of (a .keys .now) (a .modes .now) (a .values .now)) (a .k))) _ (a .out .now) (c .before .before .before .before .before .before .before .before .before .before .before .before .before .before .before .asker .ensures .1 (c .before .before .before .before .before .before .before .before .before .before .before .before .before .before .if1 .left))
-    (rw (c .before .before .before .before .before .before .before .before .full .ensures, c .before .before .before .before .before .before .before .before .before .before .state .ensures) at (c .before .before .before .before .before .before .before .inhibit .ensures)) (c .before .before .turn .ensures)
+    (c .before .before .before .before .before .before .before .inhibit .ensures ∙ ap₂ (λ (b : Bool) (h : Holding). inhibit b h (c .before .before .before .before .before .before .before .before .before .before .before .before .before .before .before .asker .result)) (c .before .before .before .before .before .before .before .before .full .ensures) (c .before .before .before .before .before .before .before .before .before .before .state .ensures)) (c .before .before .turn .ensures)
 
 pub inhibit-spec : {M : Type 1} → statement M
 inhibit-spec =

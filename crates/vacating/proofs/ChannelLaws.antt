@@ -1,0 +1,117 @@
+-- What becomes of a channel, and the table once every place is swept.
+use mathlib.Core.Path.{_≡_, refl, sym, ap, _∙_}
+use mathlib.Core.Bool.{true, false}
+use mathlib.Core.List.{List, [], _∷_}
+use mathlib.Core.Option.{Option, none, some}
+use Prim.Native.Nat.{ℕ, _≤_, _<_}
+use native.Mathlib.Omega.{arith}
+use borrow.Author.Tests.{eq-eqb, ne-eqb}
+use lib.ListN.{length, getD, set}
+use Rattle.places.specs.Sets.{if_then_else_, has, minus, meet, links, seats}
+use Rattle.places.specs.Places.{Place, At, Nowhere, find, number}
+use Rattle.places.proofs.Answers.{find-at, find-nowhere}
+use Rattle.domain.specs.declared.channel.Kind.the-variants.{Static, User, Private, Assigned}
+use Rattle.domain.specs.declared.channel.Channel.{Channel}
+use Rattle.domain.specs.Cells.{no-channel, kind, with-marks}
+use Rattle.domain.specs.Tables.{Users, channels-of, channel-cells, end-channel, lapses, marked, sweep-channels}
+use Rattle.domain.specs.Channels.{private}
+use Rattle.domain.specs.Leaving.{fate, fate-of}
+use Rattle.vacating.specs.declared.channels.Fate.{Fate}
+use Rattle.vacating.specs.declared.channels.Fate.the-variants.{Ends, Stays}
+use Rattle.vacating.specs.Swept.{Turns}
+use Rattle.vacating.specs.Fates.{fateOf, anywhere, gone-at}
+use Rattle.vacating.proofs.Sweeps.{turn-ends, turn-stays, Sweeps, sweeps-start, sweeps-end}
+
+-- ---- marks
+module _ (ch : Channel) (m : ℕ) where
+  pub mark-ends : lapses (kind ch) ≡ true → m ≡ 0 → none ≡ marked ch m
+  unfolding marked
+  mark-ends l z = rw (l, eq-eqb m 0 z) refl
+
+  pub mark-joined : lapses (kind ch) ≡ true → (m ≡ 0 → ⊥) → some (with-marks ch m) ≡ marked ch m
+  unfolding marked
+  mark-joined l z = rw (l, ne-eqb m 0 z) refl
+
+  pub mark-stays : lapses (kind ch) ≡ false → some (with-marks ch m) ≡ marked ch m
+  unfolding marked
+  mark-stays l = rw l refl
+
+-- ---- a user id channel
+module _ (names : List ℕ) (gone c r : ℕ) (e : r ≡ number (length names) (find names c)) where
+  pub user-at : r < length names → has gone r ≡ gone-at gone (find names c)
+  unfolding gone-at
+  user-at h = rw (find-at names c r e h) refl
+
+  pub user-nowhere : length names ≤ r → false ≡ gone-at gone (find names c)
+  unfolding gone-at
+  user-nowhere h = rw (find-nowhere names c r e h) refl
+
+-- ---- the fate by the channel's kind
+module _ (us : Users) (gone live c : ℕ) (ch : Channel) (m : ℕ) (e : m ≡ meet links (ch .marks) live) where
+  pub fate-static : kind ch ≡ Static → marked ch m ≡ fate us gone live c ch
+  unfolding fate fate-of
+  fate-static k = rw (k, e) refl
+
+  pub fate-assigned : kind ch ≡ Assigned → marked ch m ≡ fate us gone live c ch
+  unfolding fate fate-of
+  fate-assigned k = rw (k, e) refl
+
+  user-fate : fate-of us gone live c ch User ≡ (if gone-at gone (find (us .ids) c) then none else marked ch (meet links (ch .marks) live))
+  unfolding fate-of gone-at
+  user-fate = go (find (us .ids) c)
+    where
+      go : (w : Place) → elim w as (λ (_ : Place). Option Channel) [ At i ↦ if has gone i then none else marked ch (meet links (ch .marks) live) | Nowhere ↦ marked ch (meet links (ch .marks) live) ]
+          ≡ (if gone-at gone w then none else marked ch (meet links (ch .marks) live))
+      go (At i) = refl
+      go Nowhere = refl
+
+  pub fate-left : kind ch ≡ User → gone-at gone (find (us .ids) c) ≡ true → none ≡ fate us gone live c ch
+  unfolding fate
+  fate-left k g = rw (k, user-fate, g) refl
+
+  pub fate-user : kind ch ≡ User → gone-at gone (find (us .ids) c) ≡ false → marked ch m ≡ fate us gone live c ch
+  unfolding fate
+  fate-user k g = rw (k, user-fate, g, e) refl
+
+  module _ (g guests : ℕ) (k : kind ch ≡ Private g guests) where
+    pub fate-ended : has gone g ≡ true → none ≡ fate us gone live c ch
+    unfolding fate fate-of
+    fate-ended h = rw (k, h) refl
+
+    pub fate-private : has gone g ≡ false → (left : ℕ) → left ≡ minus seats guests gone → some (private us ch g left m) ≡ fate us gone live c ch
+    unfolding fate fate-of
+    fate-private h left z = rw (k, h, z, e) refl
+
+-- ---- one place
+module _ (f : ℕ → Channel → Option Channel) (j : ℕ) (ids rs cs gs ms ids' rs' cs' gs' ms' : List ℕ) (n : getD ids j 0 ≡ 0 → ⊥) (ch : Channel)
+    (e : ch ≡ getD (channel-cells rs cs gs ms) j no-channel) (r : Fate) (z : fateOf r ≡ f (getD ids j 0) ch) where
+  pub channel-ends : r ≡ Ends → channels-of ids' rs' cs' gs' ms' ≡ end-channel (channels-of ids rs cs gs ms) j
+      → Turns no-channel (anywhere f) j ids (channel-cells rs cs gs ms) ids' (channel-cells rs' cs' gs' ms')
+  unfolding end-channel
+  channel-ends q w =
+      rw (ap (λ t. t .ids) w, ap (λ t. t .cells) w)
+      (turn-ends no-channel (anywhere f) j ids (channel-cells rs cs gs ms) n (ap (f (getD ids j 0)) (sym e) ∙ sym z ∙ ap fateOf q))
+
+  pub channel-stays : (kept : Channel) → r ≡ Stays kept → channel-cells rs' cs' gs' ms' ≡ set (channel-cells rs cs gs ms) j kept
+      → Turns no-channel (anywhere f) j ids (channel-cells rs cs gs ms) ids (channel-cells rs' cs' gs' ms')
+  channel-stays kept q w =
+      rw w (turn-stays no-channel (anywhere f) j ids (channel-cells rs cs gs ms) n kept (ap (f (getD ids j 0)) (sym e) ∙ sym z ∙ ap fateOf q))
+
+-- ---- all of them
+long : (n : ℕ) (rs cs gs ms : List ℕ) → length rs ≡ n → length cs ≡ n → length gs ≡ n → length ms ≡ n → length (channel-cells rs cs gs ms) ≡ n
+unfolding channel-cells
+long n [] cs gs ms a b d e = a
+long n (r ∷ rs) [] gs ms a b d e = absurd (omega arith)
+long n (r ∷ rs) (x ∷ cs) [] ms a b d e = absurd (omega arith)
+long n (r ∷ rs) (x ∷ cs) (g ∷ gs) [] a b d e = absurd (omega arith)
+long n (r ∷ rs) (x ∷ cs) (g ∷ gs) (m ∷ ms) a b d e = let l = long (length rs) rs cs gs ms refl (omega arith) (omega arith) (omega arith) in omega arith
+
+pub channels-start : (f : ℕ → Channel → Option Channel) (ids rs cs gs ms : List ℕ) → length ids ≡ 128 → length rs ≡ 128 → length cs ≡ 128 → length gs ≡ 128 → length ms ≡ 128
+    → Sweeps no-channel (anywhere f) 128 ids (channel-cells rs cs gs ms) 0 ids (channel-cells rs cs gs ms)
+channels-start f ids rs cs gs ms a b d e g = sweeps-start no-channel (anywhere f) 128 ids (channel-cells rs cs gs ms) a (long 128 rs cs gs ms b d e g)
+
+pub channels-swept : (f : ℕ → Channel → Option Channel) (i : ℕ) (ids₀ rs₀ cs₀ gs₀ ms₀ ids rs cs gs ms : List ℕ)
+    → Sweeps no-channel (anywhere f) 128 ids₀ (channel-cells rs₀ cs₀ gs₀ ms₀) i ids (channel-cells rs cs gs ms) → 128 ≤ i
+    → channels-of ids rs cs gs ms ≡ sweep-channels f (channels-of ids₀ rs₀ cs₀ gs₀ ms₀)
+unfolding sweep-channels
+channels-swept f i ids₀ rs₀ cs₀ gs₀ ms₀ ids rs cs gs ms s h = let e = sweeps-end no-channel (anywhere f) s h in rw (e .0, e .1) refl
