@@ -1,0 +1,7 @@
+-- records sent whole or not at all; the initiator's place
+pub mod Sending
+pub mod Initiators
+-- AUrq and CJrq by cases
+pub mod Entering
+-- CLrq: one place, and every place
+pub mod Parting

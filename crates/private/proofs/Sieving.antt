@@ -1,0 +1,166 @@
+-- Lists of users: those picked, in their order, and the places of listed users. Assumes nothing.
+use mathlib.Core.Path.{_≡_, refl, sym, ap, _∙_}
+use mathlib.Core.Bool.{Bool, true, false, not, _||_, or-true, or-false}
+use mathlib.Core.List.{List, [], _∷_, _++_, append-nil}
+use Prim.Native.Nat.{ℕ, zero, suc, _+_, _^_, _≤_, _<_}
+use native.Mathlib.Numerals.{add-one}
+use native.Mathlib.Omega.{arith}
+use borrow.Author.Tests.{ltb-true, ltb-false, eqb-true, eqb-false, eq-eqb, ne-eqb}
+use lib.Dec.{eqb, ltb}
+use lib.ListN.{length, getD, set, take}
+use lib.Seq.{take-suc, take-suc-set}
+use Rattle.places.specs.Sets.{if_then_else_, keep, any, member, firsts, once, has, those, with, seats}
+use Rattle.places.specs.Places.{Place, At, Nowhere, find, found, number}
+use Rattle.places.proofs.Answers.{find-at, find-nowhere}
+use Rattle.places.proofs.Turns.{keep-append}
+use Rattle.places.proofs.Digits.{is-those, those-lt, has-with}
+use Rattle.places.proofs.Marks.{has-none}
+use Rattle.domain.specs.Tables.{Users, users-of, name, attached}
+use Rattle.domain.specs.Channels.{places}
+use Rattle.private.specs.declared.Pick.{Pick}
+use Rattle.private.specs.declared.Pick.the-variants.{New, Attached, Admitted, On}
+use Rattle.private.specs.Sieve.{admitted, picked, sieved}
+
+-- ---- one id
+module _ (us : Users) (adm v : ℕ) where
+  abbrev by : Place → Bool
+  by w = elim w [ At i ↦ has adm i | Nowhere ↦ false ]
+
+  pub admitted-at : (i : ℕ) → find (us .ids) v ≡ At i → admitted us adm v ≡ has adm i
+  unfolding admitted
+  admitted-at i e = ap by e
+
+  pub admitted-nowhere : find (us .ids) v ≡ Nowhere → admitted us adm v ≡ false
+  unfolding admitted
+  admitted-nowhere e = ap by e
+
+-- a place that a search has answered as a number
+pub found-is : (w : Place) (r n : ℕ) → (r < n → w ≡ At r) → (n ≤ r → w ≡ Nowhere) → ltb r n ≡ found w
+unfolding found
+found-is w r n at none = go (ltb r n) refl
+  where
+    go : (b : Bool) → ltb r n ≡ b → b ≡ found w
+    go true e = sym (ap found (at (ltb-true r n e)))
+    go false e = sym (ap found (none (ltb-false r n e)))
+
+pub found-find : (ids : List ℕ) (x r n : ℕ) → n ≡ length ids → r ≡ number (length ids) (find ids x) → ltb r n ≡ found (find ids x)
+found-find ids x r n l e = found-is (find ids x) r n (λ h. find-at ids x r e (omega arith)) (λ h. find-nowhere ids x r e (omega arith))
+
+-- ---- one more at the end
+keep-last : (f : ℕ → Bool) (xs : List ℕ) (x : ℕ) → keep f (xs ++ x ∷ []) ≡ keep f xs ++ (if f x then x ∷ [] else [])
+unfolding keep
+keep-last f xs x = keep-append f xs (x ∷ [])
+
+swap : (a b c : Bool) → ((a || b) || c) ≡ (b || (a || c))
+swap true true c = refl
+swap true false c = refl
+swap false b c = refl
+
+firsts-last : (xs before : List ℕ) (x : ℕ) → firsts before (xs ++ x ∷ []) ≡ firsts before xs ++ (if member x before || member x xs then [] else x ∷ [])
+unfolding firsts member any
+firsts-last [] before x = go (member x before)
+  where
+    go : (b : Bool) → (if b then [] else x ∷ []) ≡ (if b || false then [] else x ∷ [])
+    go true = refl
+    go false = refl
+firsts-last (y ∷ xs) before x =
+    rest (member y before) _ _ _ (firsts-last xs (y ∷ before) x ∙ ap (λ (b : Bool). firsts (y ∷ before) xs ++ (if b then [] else x ∷ [])) (swap (eqb x y) (member x before) (member x xs)))
+  where
+    rest : (b : Bool) (l r s : List ℕ) → l ≡ r ++ s → (if b then l else y ∷ l) ≡ (if b then r else y ∷ r) ++ s
+    rest true l r s e = e
+    rest false l r s e = ap (λ (l : List ℕ). y ∷ l) e
+
+once-last : (xs : List ℕ) (x : ℕ) → once (xs ++ x ∷ []) ≡ once xs ++ (if not (member x xs) then x ∷ [] else [])
+unfolding once member any
+once-last xs x = firsts-last xs [] x ∙ ap (λ (l : List ℕ). firsts [] xs ++ l) (turn (member x xs))
+  where
+    turn : (b : Bool) → (if b then [] else x ∷ []) ≡ (if not b then x ∷ [] else [])
+    turn true = refl
+    turn false = refl
+
+sieved-last : (us : Users) (k : Pick) (xs : List ℕ) (x : ℕ) → sieved us k (xs ++ x ∷ []) ≡ sieved us k xs ++ (if picked us k xs x then x ∷ [] else [])
+unfolding sieved picked
+sieved-last us New xs x = once-last xs x
+sieved-last us Attached xs x = keep-last (λ v. found (find (us .ids) v)) xs x
+sieved-last us (Admitted adm) xs x = keep-last (admitted us adm) xs x
+sieved-last us (On q) xs x = keep-last (λ v. found (attached us q v)) xs x
+
+-- ---- the loop over a list
+pub sieve-none : (us : Users) (k : Pick) → [] ≡ sieved us k []
+unfolding sieved once firsts keep
+sieve-none us New = refl
+sieve-none us Attached = refl
+sieve-none us (Admitted adm) = refl
+sieve-none us (On q) = refl
+
+pub keep-yes : (kept : List ℕ) (n x : ℕ) (b : Bool) → b ≡ true → n < length kept → take (n + 1) (set kept n x) ≡ take n kept ++ (if b then x ∷ [] else [])
+keep-yes kept n x b e h = rw (add-one n, e) (take-suc-set kept n x h)
+
+pub keep-no : (kept : List ℕ) (n x : ℕ) (b : Bool) → b ≡ false → take n kept ≡ take n kept ++ (if b then x ∷ [] else [])
+keep-no kept n x b e = rw e (sym (append-nil (take n kept)))
+
+module _ (us : Users) (k : Pick) (list : List ℕ) (i : ℕ) (h : i < length list) (before after : List ℕ) (b : Bool) where
+  pub sieve-turn : before ≡ sieved us k (take i list) → b ≡ picked us k (take i list) (getD list i 0)
+      → after ≡ before ++ (if b then getD list i 0 ∷ [] else []) → after ≡ sieved us k (take (i + 1) list)
+  sieve-turn x y z =
+      let one : take (i + 1) list ≡ take i list ++ getD list i 0 ∷ [] = rw (add-one i) (take-suc list i 0 h) in
+      z ∙ ap (λ (l : List ℕ). l ++ (if b then getD list i 0 ∷ [] else [])) x
+      ∙ ap (λ (a : Bool). sieved us k (take i list) ++ (if a then getD list i 0 ∷ [] else [])) y
+      ∙ sym (ap (sieved us k) one ∙ sieved-last us k (take i list) (getD list i 0))
+
+-- first each once, then those picked
+pub chosen-is : (us : Users) (k : Pick) (xs ys zs ids : List ℕ) → xs ≡ sieved us k ys → ys ≡ sieved us New zs → zs ≡ ids → xs ≡ sieved us k (once ids)
+unfolding sieved
+chosen-is us k xs ys zs ids x y z = x ∙ ap (sieved us k) (y ∙ ap once z)
+
+-- ---- the places of listed users
+-- of the places below i those that pass are in the mask, and no other
+pub record Seats (f : ℕ → Bool) (i m : ℕ) : Type 0 where
+  pub fits : m < 2 ^ 64
+  pub passed : (k : ℕ) → k < i → has m k ≡ f k
+  pub later : (k : ℕ) → i ≤ k → k < 64 → has m k ≡ false
+
+pub seats-none : (f : ℕ → Bool) → Seats f 0 0
+seats-none f = record { fits = omega arith; passed = λ k h. absurd (omega arith); later = λ k h l. has-none k }
+
+with-lt : (m k : ℕ) → with 64 m k < 2 ^ 64
+unfolding with
+with-lt m k = those-lt 64 _
+
+module _ (f : ℕ → Bool) (i m : ℕ) (l : i < 64) (s : Seats f i m) where
+  -- digit k with place i counted by b
+  digit : (k : ℕ) → k < 64 → (b : Bool) → b ≡ f i → (c : Bool) → eqb i k ≡ c → has (if b then with 64 m i else m) k ≡ (if c then f i else has m k)
+  digit k h true q true e = has-with 64 i k h m ∙ rw (e, ← q) (or-true (has m k))
+  digit k h true q false e = has-with 64 i k h m ∙ rw e (or-false (has m k))
+  digit k h false q true e = s .later k (omega (arith, eqb-true i k e)) h ∙ q
+  digit k h false q false e = refl
+
+  fit : (b : Bool) → (if b then with 64 m i else m) < 2 ^ 64
+  fit true = with-lt m i
+  fit false = s .fits
+
+  module _ (b : Bool) (x : b ≡ f i) where
+    passes : (k : ℕ) → k < i + 1 → (c : Bool) → eqb i k ≡ c → has (if b then with 64 m i else m) k ≡ f k
+    passes k h true e = digit k (omega arith) b x true e ∙ ap f (eqb-true i k e)
+    passes k h false e = digit k (omega arith) b x false e ∙ s .passed k (omega (arith, eqb-false i k e))
+
+    waits : (k : ℕ) → i + 1 ≤ k → k < 64 → has (if b then with 64 m i else m) k ≡ false
+    waits k h u = digit k u b x false (ne-eqb i k (λ e. omega arith)) ∙ s .later k (omega arith) u
+
+    pub seats-turn : (n : ℕ) → n ≡ (if b then with 64 m i else m) → Seats f (i + 1) n
+    seats-turn n e = rw e (record { fits = fit b; passed = λ k h. passes k h (eqb i k) refl; later = waits })
+
+pub seats-all : (f : ℕ → Bool) (i m : ℕ) → 64 ≤ i → Seats f i m → m ≡ those 64 f
+seats-all f i m h s = is-those 64 m f (s .fits) (λ k l. s .passed k (omega arith))
+
+-- who is listed, by place
+abbrev pub sits : (names homes list : List ℕ) (i : ℕ) → Bool
+sits names homes list i = member (name (users-of names homes) i) list
+
+pub sits-is : (names homes list : List ℕ) (i : ℕ) (b : Bool) → b ≡ member (getD names i 0) list → b ≡ sits names homes list i
+unfolding name
+sits-is names homes list i b e = e
+
+pub seats-are : (names homes list : List ℕ) (m : ℕ) → m ≡ those 64 (sits names homes list) → m ≡ places (users-of names homes) list
+unfolding places
+seats-are names homes list m e = e
