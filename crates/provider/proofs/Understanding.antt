@@ -1,0 +1,208 @@
+-- What is understood of octets, test by test, and that a request as the code holds it asks for what the message does. Assumes nothing.
+use mathlib.Core.Path.{_≡_, refl, sym, ap, ap₂, _∙_}
+use mathlib.Core.Bool.{Bool, true, false, not, cond, _&&_, _||_}
+use mathlib.Core.List.{List, [], _∷_, _++_}
+use Prim.Native.Nat.{ℕ, _-_, _/_, _%_, _≤_, _<_}
+use native.Mathlib.Omega.{arith}
+use borrow.Author.Tests.{lt-ltb, le-ltb, le-leb, lt-leb, eqb-true, ne-eqb}
+use lib.Dec.{eqb, leb, ltb}
+use lib.ListN.{length, getD, take, replicate}
+use lib.Seq.{take-at}
+use Rattle.places.specs.Sets.{if_then_else_}
+use Rattle.octets.specs.Octets.{Bytes}
+use Rattle.messages.specs.Messages.{may-go-up, is-served, entry}
+use Rattle.messages.specs.Columns.{packed, packedAt, tailAt}
+use Rattle.messages.specs.Codec.{Msg, Outcome, ok, refuse, sized, decode}
+use Rattle.messages.specs.Named.{Message, EDrq, DPum, RJum, AUrq, AUcf, DUrq, DUin, CJrq, CJcf, CLrq, CCrq, CCcf, CDrq, CDin, CArq, CAin, CErq, CEin}
+use Rattle.messages.specs.Named.{TGrq, TGcf, TIrq, TIcf, TVrq, TVin, TVrs, TVcf, TPrq, TPin, TRrq, TRcf, TTrq, TTcf}
+use Rattle.messages.specs.Named.{fields, formed, heard}
+use Rattle.messages.proofs.NamedLaws.{ranges, read-named, heard-formed, refused-heard}
+use Rattle.messages.proofs.Refusals.{refusal, refusals, number-read}
+use Rattle.reader.specs.Held.{padded, isString, noMessage, decoded}
+use Rattle.reader.specs.declared.Decoded.{Decoded}
+use Rattle.reader.proofs.HeldLaws.{unlike}
+use Rattle.domain.specs.Numbers.{replyNumber}
+use Rattle.domain.specs.Tables.{Domain}
+use Rattle.domain.specs.Effects.{Effect}
+use Rattle.domain.specs.Events.{Reading, reads, refuses, act, answers, ends, sends, complaint}
+use Rattle.provider.specs.declared.reading.Understood.{Understood}
+use Rattle.provider.specs.Provider.{number-in, read-as, understood}
+use Rattle.provider.specs.Requests.{token-request, private-request, channel-request, user-request, request, reply-for, requested, asks, Understands, Asked}
+
+-- ---- the tests, in their order
+module _ (os : List ℕ) where
+  pub none-understood : length os ≡ 0 → understood os ≡ refuses 4 os
+  unfolding understood
+  none-understood h = rw h refl
+
+  pub long-understood : 1024 < length os → understood os ≡ refuses 4 os
+  unfolding understood
+  long-understood h = rw (lt-ltb 0 (length os) (omega arith), lt-leb (length os) 1024 h) refl
+
+  module _ (some : 0 < length os) (few : length os ≤ 1024) where
+    pub unknown-understood : 42 < number-in os → understood os ≡ refuses 5 os
+    unfolding understood
+    unknown-understood h = rw (lt-ltb 0 (length os) some, le-leb (length os) 1024 few, lt-ltb 42 (number-in os) h) refl
+
+    module _ (known : number-in os ≤ 42) where
+      pub down-understood : may-go-up (number-in os) ≡ false → understood os ≡ refuses 6 os
+      unfolding understood
+      down-understood h = rw (lt-ltb 0 (length os) some, le-leb (length os) 1024 few, le-ltb 42 (number-in os) known, h) refl
+
+      module _ (up : may-go-up (number-in os) ≡ true) where
+        pub unserved-understood : is-served (number-in os) ≡ false → understood os ≡ refuses 7 os
+        unfolding understood
+        unserved-understood h = rw (lt-ltb 0 (length os) some, le-leb (length os) 1024 few, le-ltb 42 (number-in os) known, up, h) refl
+
+        pub read-understood : is-served (number-in os) ≡ true → understood os ≡ read-as os (heard os)
+        unfolding understood
+        read-understood h = rw (lt-ltb 0 (length os) some, le-leb (length os) 1024 few, le-ltb 42 (number-in os) known, up, h) refl
+
+-- ---- a refusal
+pub refuses-asks : (os : List ℕ) (n : ℕ) (u : Understood) → understood os ≡ refuses n os → replyNumber (u .reply) ≡ n → eqb n 0 ≡ false → Understands os u
+unfolding answers asks
+refuses-asks os n u e r z new d p room = rw (e, r, z) refl
+
+pub reply-for-is : (n : ℕ) → refusal n ≡ true → reply-for n ≡ n
+unfolding refusal reply-for
+reply-for-is n h = four (eqb n 4) refl
+  where
+    seven : (b : Bool) → eqb n 7 ≡ b → b || eqb n 8 ≡ true → (if b then 7 else 8) ≡ n
+    seven true e h = sym (eqb-true n 7 e)
+    seven false e h = sym (eqb-true n 8 h)
+
+    five : (b : Bool) → eqb n 5 ≡ b → b || eqb n 7 || eqb n 8 ≡ true → (if b then 5 else if eqb n 7 then 7 else 8) ≡ n
+    five true e h = sym (eqb-true n 5 e)
+    five false e h = seven (eqb n 7) refl h
+
+    four : (b : Bool) → eqb n 4 ≡ b → (if b then 4 else if eqb n 5 then 5 else if eqb n 7 then 7 else 8) ≡ n
+    four true e = sym (eqb-true n 4 e)
+    four false e = five (eqb n 5) refl (rw e at h)
+
+refusal-some : (n : ℕ) → refusal n ≡ true → eqb n 0 ≡ false
+unfolding refusal
+refusal-some n h = go (eqb n 0) refl
+  where
+    go : (b : Bool) → eqb n 0 ≡ b → b ≡ false
+    go true e = let z : n ≡ 0 = eqb-true n 0 e in sym (rw z at h)
+    go false e = refl
+
+-- ---- a request: nothing of a message is lost
+small : (v : ℕ) → v ≤ 65535 → v % 65536 ≡ v
+small v h = omega arith
+
+module _ (u k : ℕ) (h : u ≤ 65535) (l : k ≤ 65535) where
+  two : (c : ℕ → ℕ → Message) → c (u % 65536) (k % 65536) ≡ c u k
+  two c = ap₂ c (small u h) (small k l)
+
+  three : (c : ℕ → ℕ → ℕ → Message) (r : ℕ) → r ≤ 65535 → c (u % 65536) (k % 65536) (r % 65536) ≡ c u k r
+  three c r g = ap (c (u % 65536) (k % 65536)) (small r g) ∙ two (λ a b. c a b r)
+
+  two-list : (c : ℕ → ℕ → List ℕ → Message) (xs ys : List ℕ) → xs ≡ ys → c (u % 65536) (k % 65536) xs ≡ c u k ys
+  two-list c xs ys e = ap (c (u % 65536) (k % 65536)) e ∙ two (λ a b. c a b ys)
+
+first-listed : (xs : List ℕ) → take (length xs) (padded 64 xs) ≡ xs
+first-listed xs = take-at xs (replicate (64 - length xs) 0) (length xs) refl
+
+-- a message as the code holds it
+value-of : Message → ℕ → ℕ
+value-of m i = getD (padded 4 (fields m .values)) i 0 % 65536
+
+list-of : Message → List ℕ
+list-of m = take (length (fields m .items)) (padded 64 (cond (isString (fields m .number)) [] (fields m .items)))
+
+request-of : Message → Message
+request-of m = request (fields m .number) (value-of m 0) (value-of m 1) (value-of m 2) (list-of m)
+
+request-act : (new : ℕ) (d : Domain) (p : ℕ) (m : Message) → formed m ≡ true → is-served (fields m .number) ≡ true → act new d p (request-of m) ≡ act new d p m
+unfolding request-of value-of list-of request token-request channel-request private-request user-request fields is-served entry tailAt packedAt packed act
+request-act new d p (EDrq h i) f s = refl
+request-act new d p (DPum n) f s = refl
+request-act new d p (RJum n os) f s = refl
+request-act new d p AUrq f s = refl
+request-act new d p (AUcf n u) f s = absurd (unlike s)
+request-act new d p (DUrq n us) f s =
+    let r = ranges (DUrq n us) f in
+    let z : n % 65536 % 8 ≡ n = omega (arith, r .0 .most) in
+    ap₂ (λ (a : ℕ) (l : List ℕ). act new d p (DUrq a l)) z (first-listed us)
+request-act new d p (DUin n us) f s = absurd (unlike s)
+request-act new d p (CJrq u c) f s = let r = ranges (CJrq u c) f in ap (act new d p) (two u c (r .0 .most) (r .1 .most) CJrq)
+request-act new d p (CJcf n u a c) f s = absurd (unlike s)
+request-act new d p (CLrq cs) f s = ap (λ (l : List ℕ). act new d p (CLrq l)) (first-listed cs)
+request-act new d p (CCrq u) f s = let r = ranges (CCrq u) f in ap (λ (a : ℕ). act new d p (CCrq a)) (small u (r .most))
+request-act new d p (CCcf n u c) f s = absurd (unlike s)
+request-act new d p (CDrq u c) f s = let r = ranges (CDrq u c) f in ap (act new d p) (two u c (r .0 .most) (r .1 .most) CDrq)
+request-act new d p (CDin c) f s = absurd (unlike s)
+request-act new d p (CArq u c us) f s =
+    let r = ranges (CArq u c us) f in
+    ap (act new d p) (two-list u c (r .0 .most) (r .1 .most) CArq _ us (first-listed us))
+request-act new d p (CAin u c us) f s = absurd (unlike s)
+request-act new d p (CErq u c us) f s =
+    let r = ranges (CErq u c us) f in
+    ap (act new d p) (two-list u c (r .0 .most) (r .1 .most) CErq _ us (first-listed us))
+request-act new d p (CEin c us) f s = absurd (unlike s)
+request-act new d p (TGrq u k) f s = let r = ranges (TGrq u k) f in ap (act new d p) (two u k (r .0 .most) (r .1 .most) TGrq)
+request-act new d p (TGcf n u k t) f s = absurd (unlike s)
+request-act new d p (TIrq u k) f s = let r = ranges (TIrq u k) f in ap (act new d p) (two u k (r .0 .most) (r .1 .most) TIrq)
+request-act new d p (TIcf n u k t) f s = absurd (unlike s)
+request-act new d p (TVrq u k v) f s = let r = ranges (TVrq u k v) f in ap (act new d p) (three u k (r .0 .most) (r .1 .most) TVrq v (r .2 .most))
+request-act new d p (TVin u k v) f s = absurd (unlike s)
+request-act new d p (TVrs n v k) f s =
+    let r = ranges (TVrs n v k) f in
+    let z : n % 65536 % 16 ≡ n = omega (arith, r .0 .most) in
+    ap (act new d p) (ap (λ (a : ℕ). TVrs a (v % 65536) (k % 65536)) z ∙ two v k (r .1 .most) (r .2 .most) (TVrs n))
+request-act new d p (TVcf n u k t) f s = absurd (unlike s)
+request-act new d p (TPrq u k) f s = let r = ranges (TPrq u k) f in ap (act new d p) (two u k (r .0 .most) (r .1 .most) TPrq)
+request-act new d p (TPin u k) f s = absurd (unlike s)
+request-act new d p (TRrq u k) f s = let r = ranges (TRrq u k) f in ap (act new d p) (two u k (r .0 .most) (r .1 .most) TRrq)
+request-act new d p (TRcf n u k t) f s = absurd (unlike s)
+request-act new d p (TTrq u k) f s = let r = ranges (TTrq u k) f in ap (act new d p) (two u k (r .0 .most) (r .1 .most) TTrq)
+request-act new d p (TTcf u k t) f s = absurd (unlike s)
+
+-- ---- what is read
+number-is : (os : List ℕ) (x : Msg) → decode os ≡ ok x → x .number ≡ number-in os
+unfolding number-in decode
+number-is [] x e = absurd (let z : _≡_ {A = ℕ} 0 1 = cc in omega arith)
+number-is (o ∷ os) x e = number-read o os x e
+
+requested-is : (os : List ℕ) (m : Message) (dec : Decoded) (u : Understood) → dec ≡ decoded os (ok (fields m)) → Asked dec u → requested u ≡ request-of m
+unfolding requested request-of value-of list-of decoded
+requested-is os m dec u e a = rw (a .number, a .first, a .second, a .third, a .count, a .listed, e) refl
+
+served-asks : (os : List ℕ) (m : Message) (dec : Decoded) (u : Understood) → dec ≡ decoded os (ok (fields m)) → Asked dec u
+    → formed m ≡ true → is-served (fields m .number) ≡ true → understood os ≡ reads m → Understands os u
+unfolding answers asks
+served-asks os m dec u e a f s i new d p room =
+    rw (i, a .done) (ap (λ (x : Effect Domain). ends d room x) (sym (ap (act new d p) (requested-is os m dec u e a) ∙ request-act new d p m f s)))
+
+module _ (os : List ℕ) (dec : Decoded) (e : dec ≡ decoded os (decode os)) (u : Understood) (i : understood os ≡ read-as os (heard os)) where
+  pub asked-asks : Bytes os → dec .ok ≡ true → Asked dec u → is-served (number-in os) ≡ true → Understands os u
+  unfolding decoded noMessage read-as
+  asked-asks y k a s = go (decode os) refl
+    where
+      go : (o : Outcome Msg) → decode os ≡ o → Understands os u
+      go (ok x) f = read-named os y x f λ m is same.
+          served-asks os m dec u (e ∙ ap (decoded os) (f ∙ ap ok (sym same))) a (heard-formed os y m is)
+          (ap is-served (ap (λ (z : Msg). z .number) same ∙ number-is os x f) ∙ s) (i ∙ ap (read-as os) is)
+      go (refuse n) f = absurd (unlike (sym (ap (λ (z : Decoded). z .ok) (e ∙ ap (decoded os) f)) ∙ k))
+
+  pub codec-asks : dec .ok ≡ false → replyNumber (u .reply) ≡ reply-for (dec .refusal) → Understands os u
+  unfolding decoded noMessage read-as
+  codec-asks k r = go (decode os) refl
+    where
+      go : (o : Outcome Msg) → decode os ≡ o → Understands os u
+      go (ok x) f = absurd (unlike (sym k ∙ ap (λ (z : Decoded). z .ok) (e ∙ ap (decoded os) f)))
+      go (refuse n) f =
+          let z : dec .refusal ≡ n = ap (λ (z : Decoded). z .refusal) (e ∙ ap (decoded os) f) in
+          refuses-asks os n u (i ∙ ap (read-as os) (refused-heard os n f)) (r ∙ ap reply-for z ∙ reply-for-is n (refusals os n f)) (refusal-some n (refusals os n f))
+
+-- ---- what is asked, by the reply
+module _ (new : ℕ) (d : Domain) (p room : ℕ) (os : List ℕ) (u : Understood) where
+  pub refused-asks : (replyNumber (u .reply) ≡ 0 → ⊥)
+      → asks new d p room os u ≡ sends d room (replyNumber (u .reply)) d (complaint (replyNumber (u .reply)) p os)
+  unfolding asks
+  refused-asks h = rw (ne-eqb (replyNumber (u .reply)) 0 h) refl
+
+  pub requested-asks : replyNumber (u .reply) ≡ 0 → asks new d p room os u ≡ ends d room (act new d p (requested u))
+  unfolding asks
+  requested-asks h = rw h refl

@@ -1,0 +1,121 @@
+// The provider: every event on every connection, with any octets and any room for answers. The tables are lent as columns of numbers; any
+// contents are taken.
+mod answers;
+pub mod asking;
+mod reading;
+mod serving;
+pub mod starting;
+
+ghost use mathlib.Core.Path.{_≡_};
+ghost use Rattle.domain.specs.declared.Limits.{Limits};
+ghost use Rattle.domain.specs.Tables.{domain-of};
+ghost use Rattle.domain.specs.Effects.{answered};
+ghost use Rattle.domain.specs.Events.{loses, hears};
+ghost use Rattle.provider.specs.Provider.{understood, after};
+use domain::answer::Answer;
+use domain::numbers::Reply;
+
+// Connection p is lost.
+pub fn lose(
+    links: &mut u16,
+    names: &mut [u16; 64],
+    homes: &mut [u8; 64],
+    ids: &mut [u16; 128],
+    roles: &mut [u8; 128],
+    chairs: &mut [u8; 128],
+    guests: &mut [u64; 128],
+    marks: &mut [u16; 128],
+    keys: &mut [u16; 64],
+    modes: &mut [u8; 64],
+    values: &mut [u64; 64],
+    p: u8,
+    out: &mut [u8],
+) -> Answer
+    ensures { λ r. ⌜ ((l : Limits) → answered r (domain-of l (now (links .exit)) (now (names .exit)) (now (homes .exit)) (now (ids .exit)) (now (roles .exit))
+        (now (chairs .exit)) (now (guests .exit)) (now (marks .exit)) (now (keys .exit)) (now (modes .exit)) (now (values .exit))) (now (out .exit))
+        ≡ after (domain-of l (now (links .entry)) (now (names .entry)) (now (homes .entry)) (now (ids .entry)) (now (roles .entry))
+        (now (chairs .entry)) (now (guests .entry)) (now (marks .entry)) (now (keys .entry)) (now (modes .entry)) (now (values .entry))) (loses p) (now (out .entry))) ⌝ }
+{
+    let open = *links;
+    if !answers::is_open(open, p) {
+        return Answer {
+            reply: Reply::NotOpen,
+            sent: 0,
+        };
+    }
+    leaving::close(
+        links,
+        names,
+        homes,
+        ids,
+        roles,
+        chairs,
+        guests,
+        marks,
+        keys,
+        modes,
+        values,
+        p,
+        out,
+    )
+}
+
+// A message on connection p: any octets.
+pub fn message(
+    limits: domain::Limits,
+    links: &mut u16,
+    names: &mut [u16; 64],
+    homes: &mut [u8; 64],
+    ids: &mut [u16; 128],
+    roles: &mut [u8; 128],
+    chairs: &mut [u8; 128],
+    guests: &mut [u64; 128],
+    marks: &mut [u16; 128],
+    keys: &mut [u16; 64],
+    modes: &mut [u8; 64],
+    values: &mut [u64; 64],
+    p: u8,
+    octets: &[u8],
+    out: &mut [u8],
+) -> Answer
+    ensures { λ r. ⌜ answered r (domain-of limits (now (links .exit)) (now (names .exit)) (now (homes .exit)) (now (ids .exit)) (now (roles .exit))
+        (now (chairs .exit)) (now (guests .exit)) (now (marks .exit)) (now (keys .exit)) (now (modes .exit)) (now (values .exit))) (now (out .exit))
+        ≡ after (domain-of limits (now (links .entry)) (now (names .entry)) (now (homes .entry)) (now (ids .entry)) (now (roles .entry))
+        (now (chairs .entry)) (now (guests .entry)) (now (marks .entry)) (now (keys .entry)) (now (modes .entry)) (now (values .entry))) (hears p (understood (now (octets .entry)))) (now (out .entry)) ⌝ }
+{
+    let open = *links;
+    if !answers::is_open(open, p) {
+        return Answer {
+            reply: Reply::NotOpen,
+            sent: 0,
+        };
+    }
+    let u = reading::understand(octets);
+    let reply = u.reply;
+    if domain::numbers::reply_number(reply) != 0 {
+        return answers::refuse(p, reply, octets, out);
+    }
+    let listed = u.listed;
+    serving::request(
+        limits,
+        links,
+        names,
+        homes,
+        ids,
+        roles,
+        chairs,
+        guests,
+        marks,
+        keys,
+        modes,
+        values,
+        p,
+        u.number,
+        u.first,
+        u.second,
+        u.third,
+        &listed,
+        u.count,
+        out,
+    )
+}

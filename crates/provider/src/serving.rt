@@ -1,0 +1,423 @@
+// A request on an open connection, by its number.
+ghost use mathlib.Core.Path.{_≡_};
+ghost use Prim.Native.Nat.{ℕ};
+ghost use lib.ListN.{take};
+ghost use Rattle.domain.specs.Tables.{Channels, Tokens, users-of, channels-of, tokens-of, domain-of, grant};
+ghost use Rattle.domain.specs.Effects.{answered, settle};
+ghost use Rattle.domain.specs.Events.{act};
+ghost use Rattle.provider.specs.Requests.{joined, token-request, private-request, channel-request, user-request, request as requestOf};
+use domain::Limits;
+use domain::answer::Answer;
+use domain::numbers::Reply;
+
+// TGrq, TIrq, TVrq, TVrs, TPrq, TRrq, TTrq.
+fn token_request(
+    limits: Limits,
+    names: &[u16; 64],
+    homes: &[u8; 64],
+    keys: &mut [u16; 64],
+    modes: &mut [u8; 64],
+    values: &mut [u64; 64],
+    p: u8,
+    number: u32,
+    first: u16,
+    second: u16,
+    third: u16,
+    out: &mut [u8],
+) -> Answer
+    ensures { λ r. ⌜ ((m : ℕ) (cs : Channels) (new : ℕ) → answered r (joined limits m (users-of (now (names .entry)) (now (homes .entry))) cs
+        (tokens-of (now (keys .exit)) (now (modes .exit)) (now (values .exit)))) (now (out .exit))
+        ≡ settle (joined limits m (users-of (now (names .entry)) (now (homes .entry))) cs (tokens-of (now (keys .entry)) (now (modes .entry)) (now (values .entry))))
+        (act new (joined limits m (users-of (now (names .entry)) (now (homes .entry))) cs (tokens-of (now (keys .entry)) (now (modes .entry)) (now (values .entry))))
+        p (token-request number first second third)) (now (out .entry))) ⌝ }
+{
+    let most = limits.tokens;
+    match number {
+        29 => passing::grab(
+            names,
+            homes,
+            keys,
+            modes,
+            values,
+            most,
+            p,
+            first,
+            second,
+            out,
+        ),
+        31 => passing::inhibit(
+            names,
+            homes,
+            keys,
+            modes,
+            values,
+            most,
+            p,
+            first,
+            second,
+            out,
+        ),
+        33 => passing::offer(
+            names,
+            homes,
+            keys,
+            modes,
+            values,
+            p,
+            first,
+            second,
+            third,
+            out,
+        ),
+        35 => {
+            let result = (first % 16) as u8;
+            passing::answer(
+                names,
+                homes,
+                keys,
+                modes,
+                values,
+                p,
+                result,
+                second,
+                third,
+                out,
+            )
+        }
+        37 => passing::please(names, homes, keys, modes, values, p, first, second, out),
+        39 => passing::release(names, homes, keys, modes, values, p, first, second, out),
+        _ => passing::test(names, homes, keys, modes, values, p, first, second, out),
+    }
+}
+
+// CCrq, CDrq, CArq, CErq.
+fn private_request(
+    limits: Limits,
+    names: &[u16; 64],
+    homes: &[u8; 64],
+    ids: &mut [u16; 128],
+    roles: &mut [u8; 128],
+    chairs: &mut [u8; 128],
+    guests: &mut [u64; 128],
+    marks: &mut [u16; 128],
+    p: u8,
+    number: u32,
+    first: u16,
+    second: u16,
+    listed: &[u16; 64],
+    count: usize,
+    out: &mut [u8],
+) -> Answer
+    ensures { λ r. ⌜ ((m : ℕ) (ts : Tokens) → answered r (joined limits m (users-of (now (names .entry)) (now (homes .entry)))
+        (channels-of (now (ids .exit)) (now (roles .exit)) (now (chairs .exit)) (now (guests .exit)) (now (marks .exit))) ts) (now (out .exit))
+        ≡ settle (joined limits m (users-of (now (names .entry)) (now (homes .entry))) (channels-of (now (ids .entry)) (now (roles .entry)) (now (chairs .entry)) (now (guests .entry)) (now (marks .entry))) ts)
+        (act (grant (channels-of (now (ids .entry)) (now (roles .entry)) (now (chairs .entry)) (now (guests .entry)) (now (marks .entry))))
+        (joined limits m (users-of (now (names .entry)) (now (homes .entry))) (channels-of (now (ids .entry)) (now (roles .entry)) (now (chairs .entry)) (now (guests .entry)) (now (marks .entry))) ts)
+        p (private-request number first second (take count (now (listed .entry))))) (now (out .entry))) ⌝ }
+{
+    match number {
+        17 => {
+            let most = limits.channels;
+            private::convene(
+                names,
+                homes,
+                ids,
+                roles,
+                chairs,
+                guests,
+                marks,
+                most,
+                p,
+                first,
+                out,
+            )
+        }
+        19 => private::disband(
+            names,
+            homes,
+            ids,
+            roles,
+            chairs,
+            guests,
+            marks,
+            p,
+            first,
+            second,
+            out,
+        ),
+        21 => private::admit(
+            names,
+            homes,
+            ids,
+            roles,
+            chairs,
+            guests,
+            marks,
+            p,
+            first,
+            second,
+            listed,
+            count,
+            out,
+        ),
+        _ => private::expel(
+            names,
+            homes,
+            ids,
+            roles,
+            chairs,
+            guests,
+            marks,
+            p,
+            first,
+            second,
+            listed,
+            count,
+            out,
+        ),
+    }
+}
+
+// CJrq, CLrq, and the requests about private channels.
+fn channel_request(
+    limits: Limits,
+    names: &[u16; 64],
+    homes: &[u8; 64],
+    ids: &mut [u16; 128],
+    roles: &mut [u8; 128],
+    chairs: &mut [u8; 128],
+    guests: &mut [u64; 128],
+    marks: &mut [u16; 128],
+    p: u8,
+    number: u32,
+    first: u16,
+    second: u16,
+    listed: &[u16; 64],
+    count: usize,
+    out: &mut [u8],
+) -> Answer
+    ensures { λ r. ⌜ ((m : ℕ) (ts : Tokens) → answered r (joined limits m (users-of (now (names .entry)) (now (homes .entry)))
+        (channels-of (now (ids .exit)) (now (roles .exit)) (now (chairs .exit)) (now (guests .exit)) (now (marks .exit))) ts) (now (out .exit))
+        ≡ settle (joined limits m (users-of (now (names .entry)) (now (homes .entry))) (channels-of (now (ids .entry)) (now (roles .entry)) (now (chairs .entry)) (now (guests .entry)) (now (marks .entry))) ts)
+        (act (grant (channels-of (now (ids .entry)) (now (roles .entry)) (now (chairs .entry)) (now (guests .entry)) (now (marks .entry))))
+        (joined limits m (users-of (now (names .entry)) (now (homes .entry))) (channels-of (now (ids .entry)) (now (roles .entry)) (now (chairs .entry)) (now (guests .entry)) (now (marks .entry))) ts)
+        p (channel-request number first second (take count (now (listed .entry))))) (now (out .entry))) ⌝ }
+{
+    match number {
+        14 => {
+            let most = limits.channels;
+            channels::join(
+                names,
+                homes,
+                ids,
+                roles,
+                chairs,
+                guests,
+                marks,
+                most,
+                p,
+                first,
+                second,
+                out,
+            )
+        }
+        16 => channels::leave_channels(ids, roles, chairs, guests, marks, p, listed, count, out),
+        _ => private_request(
+            limits,
+            names,
+            homes,
+            ids,
+            roles,
+            chairs,
+            guests,
+            marks,
+            p,
+            number,
+            first,
+            second,
+            listed,
+            count,
+            out,
+        ),
+    }
+}
+
+// EDrq, AUrq, DUrq, and DPum and RJum, which close.
+fn user_request(
+    limits: Limits,
+    links: &mut u16,
+    names: &mut [u16; 64],
+    homes: &mut [u8; 64],
+    ids: &mut [u16; 128],
+    roles: &mut [u8; 128],
+    chairs: &mut [u8; 128],
+    guests: &mut [u64; 128],
+    marks: &mut [u16; 128],
+    keys: &mut [u16; 64],
+    modes: &mut [u8; 64],
+    values: &mut [u64; 64],
+    p: u8,
+    number: u32,
+    first: u16,
+    listed: &[u16; 64],
+    count: usize,
+    out: &mut [u8],
+) -> Answer
+    ensures { λ r. ⌜ answered r (domain-of limits (now (links .exit)) (now (names .exit)) (now (homes .exit)) (now (ids .exit)) (now (roles .exit))
+        (now (chairs .exit)) (now (guests .exit)) (now (marks .exit)) (now (keys .exit)) (now (modes .exit)) (now (values .exit))) (now (out .exit))
+        ≡ settle (domain-of limits (now (links .entry)) (now (names .entry)) (now (homes .entry)) (now (ids .entry)) (now (roles .entry))
+        (now (chairs .entry)) (now (guests .entry)) (now (marks .entry)) (now (keys .entry)) (now (modes .entry)) (now (values .entry)))
+        (act (grant (channels-of (now (ids .entry)) (now (roles .entry)) (now (chairs .entry)) (now (guests .entry)) (now (marks .entry))))
+        (domain-of limits (now (links .entry)) (now (names .entry)) (now (homes .entry)) (now (ids .entry)) (now (roles .entry))
+        (now (chairs .entry)) (now (guests .entry)) (now (marks .entry)) (now (keys .entry)) (now (modes .entry)) (now (values .entry)))
+        p (user-request number first (take count (now (listed .entry))))) (now (out .entry)) ⌝ }
+{
+    match number {
+        1 => Answer {
+            reply: Reply::Done,
+            sent: 0,
+        },
+        10 => {
+            let users = limits.users;
+            let most = limits.channels;
+            channels::attach(
+                names,
+                homes,
+                ids,
+                roles,
+                chairs,
+                guests,
+                marks,
+                users,
+                most,
+                p,
+                out,
+            )
+        }
+        12 => {
+            let reason = (first % 8) as u8;
+            leaving::detach(
+                links,
+                names,
+                homes,
+                ids,
+                roles,
+                chairs,
+                guests,
+                marks,
+                keys,
+                modes,
+                values,
+                p,
+                reason,
+                listed,
+                count,
+                out,
+            )
+        }
+        _ => leaving::close(
+            links,
+            names,
+            homes,
+            ids,
+            roles,
+            chairs,
+            guests,
+            marks,
+            keys,
+            modes,
+            values,
+            p,
+            out,
+        ),
+    }
+}
+
+// Every served message.
+pub fn request(
+    limits: Limits,
+    links: &mut u16,
+    names: &mut [u16; 64],
+    homes: &mut [u8; 64],
+    ids: &mut [u16; 128],
+    roles: &mut [u8; 128],
+    chairs: &mut [u8; 128],
+    guests: &mut [u64; 128],
+    marks: &mut [u16; 128],
+    keys: &mut [u16; 64],
+    modes: &mut [u8; 64],
+    values: &mut [u64; 64],
+    p: u8,
+    number: u32,
+    first: u16,
+    second: u16,
+    third: u16,
+    listed: &[u16; 64],
+    count: usize,
+    out: &mut [u8],
+) -> Answer
+    ensures { λ r. ⌜ answered r (domain-of limits (now (links .exit)) (now (names .exit)) (now (homes .exit)) (now (ids .exit)) (now (roles .exit))
+        (now (chairs .exit)) (now (guests .exit)) (now (marks .exit)) (now (keys .exit)) (now (modes .exit)) (now (values .exit))) (now (out .exit))
+        ≡ settle (domain-of limits (now (links .entry)) (now (names .entry)) (now (homes .entry)) (now (ids .entry)) (now (roles .entry))
+        (now (chairs .entry)) (now (guests .entry)) (now (marks .entry)) (now (keys .entry)) (now (modes .entry)) (now (values .entry)))
+        (act (grant (channels-of (now (ids .entry)) (now (roles .entry)) (now (chairs .entry)) (now (guests .entry)) (now (marks .entry))))
+        (domain-of limits (now (links .entry)) (now (names .entry)) (now (homes .entry)) (now (ids .entry)) (now (roles .entry))
+        (now (chairs .entry)) (now (guests .entry)) (now (marks .entry)) (now (keys .entry)) (now (modes .entry)) (now (values .entry)))
+        p (requestOf number first second third (take count (now (listed .entry))))) (now (out .entry)) ⌝ }
+{
+    if 28 < number {
+        return token_request(
+            limits,
+            names,
+            homes,
+            keys,
+            modes,
+            values,
+            p,
+            number,
+            first,
+            second,
+            third,
+            out,
+        );
+    }
+    if 12 < number {
+        return channel_request(
+            limits,
+            names,
+            homes,
+            ids,
+            roles,
+            chairs,
+            guests,
+            marks,
+            p,
+            number,
+            first,
+            second,
+            listed,
+            count,
+            out,
+        );
+    }
+    user_request(
+        limits,
+        links,
+        names,
+        homes,
+        ids,
+        roles,
+        chairs,
+        guests,
+        marks,
+        keys,
+        modes,
+        values,
+        p,
+        number,
+        first,
+        listed,
+        count,
+        out,
+    )
+}
