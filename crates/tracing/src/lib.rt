@@ -1,0 +1,382 @@
+// The trace program's run: reads frames from standard input, plays each on the domain, and prints a line for each.
+ghost use Prim.Native.Nat.{_≤_};
+ghost use lib.ListN.{length};
+use domain::Limits;
+use domain::answer::Answer;
+use domain::numbers::Reply;
+use frames::Frame;
+use frames::Kind;
+use libc::STDIN_FILENO;
+use streams::input::Span;
+use streams::lines::Report;
+
+// Room for answers that never meets reply 9.
+const ROOM: usize = 17200;
+
+// Where the run stands: what is not taken of the input, what is filled of the output, whether the octets sent are shown, and whether to go on.
+struct Turn {
+    span: Span,
+    filled: usize,
+    shows: bool,
+    more: bool,
+}
+
+// What was taken from the front of the input: its answer, if it prints a line, how many octets it is long, and whether the run goes on.
+struct Taken {
+    reply: u64,
+    sent: usize,
+    size: usize,
+    line: bool,
+    more: bool,
+}
+
+// An event of this kind on a connection.
+fn event(
+    limits: Limits,
+    links: &mut u16,
+    names: &mut [u16; 64],
+    homes: &mut [u8; 64],
+    ids: &mut [u16; 128],
+    roles: &mut [u8; 128],
+    chairs: &mut [u8; 128],
+    guests: &mut [u64; 128],
+    marks: &mut [u16; 128],
+    keys: &mut [u16; 64],
+    modes: &mut [u8; 64],
+    values: &mut [u64; 64],
+    kind: Kind,
+    connection: u8,
+    message: &[u8],
+    room: &mut [u8; ROOM],
+) -> Answer {
+    match kind {
+        Kind::Open => Answer {
+            reply: provider::starting::open(links, connection),
+            sent: 0,
+        },
+        Kind::Loss => provider::lose(
+            links,
+            names,
+            homes,
+            ids,
+            roles,
+            chairs,
+            guests,
+            marks,
+            keys,
+            modes,
+            values,
+            connection,
+            room,
+        ),
+        Kind::Message => provider::message(
+            limits,
+            links,
+            names,
+            homes,
+            ids,
+            roles,
+            chairs,
+            guests,
+            marks,
+            keys,
+            modes,
+            values,
+            connection,
+            message,
+            room,
+        ),
+    }
+}
+
+// Takes the frame at the front of s and plays it.
+fn take_frame(
+    s: &[u8],
+    limits: Limits,
+    links: &mut u16,
+    names: &mut [u16; 64],
+    homes: &mut [u8; 64],
+    ids: &mut [u16; 128],
+    roles: &mut [u8; 128],
+    chairs: &mut [u8; 128],
+    guests: &mut [u64; 128],
+    marks: &mut [u16; 128],
+    keys: &mut [u16; 64],
+    modes: &mut [u8; 64],
+    values: &mut [u64; 64],
+    room: &mut [u8; ROOM],
+) -> Taken
+    ensures { λ r. ⌜ r .size ≤ length (now (s .entry)) ⌝ }
+{
+    let found = frames::next_frame(s);
+    match found {
+        Frame::End => Taken {
+            reply: 0,
+            sent: 0,
+            size: 0,
+            line: false,
+            more: false,
+        },
+        Frame::Bad => Taken {
+            reply: domain::numbers::reply_number(Reply::BadFrame) as u64,
+            sent: 0,
+            size: 0,
+            line: true,
+            more: false,
+        },
+        Frame::Good {
+            kind,
+            connection,
+            start,
+            size,
+        } => {
+            let a = event(
+                limits,
+                links,
+                names,
+                homes,
+                ids,
+                roles,
+                chairs,
+                guests,
+                marks,
+                keys,
+                modes,
+                values,
+                kind,
+                connection,
+                &s[start..size],
+                room,
+            );
+            let reply = a.reply;
+            Taken {
+                reply: domain::numbers::reply_number(reply) as u64,
+                sent: a.sent,
+                size,
+                line: true,
+                more: true,
+            }
+        }
+    }
+}
+
+// The line of what was taken: the reply, octets sent, users, channels and tokens in use.
+fn report(taken: Taken, names: &[u16; 64], ids: &[u16; 128], keys: &[u16; 64]) -> Report {
+    Report {
+        reply: taken.reply,
+        sent: taken.sent as u64,
+        users: provider::asking::in_use(names) as u64,
+        channels: provider::asking::in_use(ids) as u64,
+        tokens: provider::asking::in_use(keys) as u64,
+    }
+}
+
+// Prints the line of what was taken, if it has one, and answers what is filled then.
+fn print(output: &mut [u8], filled: usize, line: bool, report: Report) -> usize {
+    if line {
+        return streams::lines::add_line(output, filled, report);
+    }
+    filled
+}
+
+// A digit of an octet in hexadecimal.
+fn digit(n: u8) -> u8 {
+    if n < 10 {
+        b'0' + n
+    } else {
+        b'A' + (n - 10) % 6
+    }
+}
+
+// Puts the octets of a part of the room in hexadecimal.
+fn print_octets(output: &mut [u8], filled: usize, octets: &[u8]) -> usize {
+    let mut at = filled;
+    let mut i = 0;
+    while i < octets.len() {
+        let text = [digit(octets[i] / 16), digit(octets[i] % 16)];
+        at = streams::lines::collect(output, at, &text);
+        i += 1;
+    }
+    at
+}
+
+// Prints the octets sent on a line of their own, where they are to be shown.
+fn print_sent(
+    output: &mut [u8],
+    filled: usize,
+    shows: bool,
+    room: &[u8; ROOM],
+    sent: usize,
+) -> usize {
+    if !shows {
+        return filled;
+    }
+    let all = &room[..];
+    if all.len() < sent {
+        return filled;
+    }
+    let at = print_octets(output, filled, &all[..sent]);
+    streams::lines::collect(output, at, b"\n")
+}
+
+// Takes one frame and prints its line. The run goes on behind a good frame.
+fn step(
+    input: &mut [u8],
+    output: &mut [u8],
+    limits: Limits,
+    links: &mut u16,
+    names: &mut [u16; 64],
+    homes: &mut [u8; 64],
+    ids: &mut [u16; 128],
+    roles: &mut [u8; 128],
+    chairs: &mut [u8; 128],
+    guests: &mut [u64; 128],
+    marks: &mut [u16; 128],
+    keys: &mut [u16; 64],
+    modes: &mut [u8; 64],
+    values: &mut [u64; 64],
+    room: &mut [u8; ROOM],
+    at: Turn,
+) -> Turn {
+    let have = at.span;
+    let span = streams::input::ready(STDIN_FILENO, input, have);
+    let from = span.from;
+    let to = span.to;
+    let taken = take_frame(
+        &input[from..to],
+        limits,
+        links,
+        names,
+        homes,
+        ids,
+        roles,
+        chairs,
+        guests,
+        marks,
+        keys,
+        modes,
+        values,
+        room,
+    );
+    let next = from + taken.size;
+    let lined = print(
+        output,
+        at.filled,
+        taken.line,
+        report(taken, names, ids, keys),
+    );
+    let filled = print_sent(output, lined, at.shows && taken.line, room, taken.sent);
+    Turn {
+        span: Span {
+            from: next,
+            to,
+            ended: span.ended,
+        },
+        filled,
+        shows: at.shows,
+        more: taken.more,
+    }
+}
+
+// A proved loop has to end, and nothing says that the input does: the loop counts its turns down from a number that no run uses up.
+fn play(
+    input: &mut [u8],
+    output: &mut [u8],
+    limits: Limits,
+    links: &mut u16,
+    names: &mut [u16; 64],
+    homes: &mut [u8; 64],
+    ids: &mut [u16; 128],
+    roles: &mut [u8; 128],
+    chairs: &mut [u8; 128],
+    guests: &mut [u64; 128],
+    marks: &mut [u16; 128],
+    keys: &mut [u16; 64],
+    modes: &mut [u8; 64],
+    values: &mut [u64; 64],
+    room: &mut [u8; ROOM],
+    shows: bool,
+) {
+    let mut at = Turn {
+        span: streams::input::start(),
+        filled: 0,
+        shows,
+        more: true,
+    };
+    let mut turns = u64::MAX;
+    while turns > 0 && at.more {
+        at = step(
+            input,
+            output,
+            limits,
+            links,
+            names,
+            homes,
+            ids,
+            roles,
+            chairs,
+            guests,
+            marks,
+            keys,
+            modes,
+            values,
+            room,
+            at,
+        );
+        turns -= 1;
+    }
+    streams::lines::flush(output, at.filled);
+}
+
+// A fresh domain with limits 128, 64, 64. The input's buffer holds the longest frame, 65,537 octets, and as much again, so that few octets are
+// moved. With `shows` the octets sent for each frame follow its line, in hexadecimal.
+pub fn run(shows: bool) {
+    let mut input = [0u8; 131072];
+    let mut output = [0u8; 65536];
+    let mut room = [0u8; ROOM];
+    let mut links: u16 = 0;
+    let mut names = [0u16; 64];
+    let mut homes = [0u8; 64];
+    let mut ids = [0u16; 128];
+    let mut roles = [0u8; 128];
+    let mut chairs = [0u8; 128];
+    let mut guests = [0u64; 128];
+    let mut marks = [0u16; 128];
+    let mut keys = [0u16; 64];
+    let mut modes = [0u8; 64];
+    let mut values = [0u64; 64];
+    let started = provider::starting::start(
+        128,
+        64,
+        64,
+        &mut links,
+        &mut names,
+        &mut homes,
+        &mut ids,
+        &mut roles,
+        &mut chairs,
+        &mut guests,
+        &mut marks,
+        &mut keys,
+        &mut modes,
+        &mut values,
+    );
+    play(
+        &mut input,
+        &mut output,
+        started.limits,
+        &mut links,
+        &mut names,
+        &mut homes,
+        &mut ids,
+        &mut roles,
+        &mut chairs,
+        &mut guests,
+        &mut marks,
+        &mut keys,
+        &mut modes,
+        &mut values,
+        &mut room,
+        shows,
+    );
+}
