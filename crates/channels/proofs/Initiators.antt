@@ -2,13 +2,15 @@
 use mathlib.Core.Path.{_≡_, refl, sym, ap, _∙_}
 use mathlib.Core.Bool.{Bool, true, false}
 use Prim.Native.Nat.{ℕ, _≤_, _<_}
-use lib.Dec.{eqb}
+use borrow.Author.Tests.{lt-ltb, le-ltb}
+use lib.Dec.{eqb, ltb}
 use lib.ListN.{length}
 use Rattle.places.specs.Sets.{if_then_else_}
 use Rattle.places.specs.Places.{Place, At, Nowhere, find, number}
 use Rattle.places.proofs.Rows.{At≢Nowhere}
 use Rattle.places.proofs.Answers.{Inside, find-inside, number-at, number-none}
 use Rattle.domain.specs.Tables.{Users, link, attached}
+use Rattle.tables.specs.Numbered.{place}
 use Rattle.domain.specs.Effects.{Effect, ignored, from}
 
 abbrev sits : Users → ℕ → Place → Place
@@ -27,11 +29,22 @@ attached-inside us p u = go (find (us .ids) u) (find-inside (us .ids) u)
     go Nowhere h = h
 
 -- the number that the code answers
-pub seated : (us : Users) (p u r : ℕ) → r ≡ number 64 (attached us p u) → r < 64 → attached us p u ≡ At r
-seated us p u r e h = number-at 64 (attached us p u) r e h
+module _ (w : Place) (n r : ℕ) (e : place n r ≡ w) where
+  pub placed : r < n → w ≡ At r
+  unfolding place
+  placed h = sym e ∙ rw (lt-ltb r n h) refl
 
-pub unseated : (us : Users) (p u r : ℕ) → length (us .ids) ≡ 64 → r ≡ number 64 (attached us p u) → 64 ≤ r → attached us p u ≡ Nowhere
-unseated us p u r l e h = number-none 64 (attached us p u) r e (rw l at (attached-inside us p u)) h
+  pub unplaced : n ≤ r → w ≡ Nowhere
+  unfolding place
+  unplaced h = sym e ∙ rw (le-ltb r n h) refl
+
+pub seated : (us : Users) (p u r : ℕ) → r ≡ number 64 (attached us p u) → r < 64 → place 64 r ≡ attached us p u
+unfolding place
+seated us p u r e h = rw (lt-ltb r 64 h) (sym (number-at 64 (attached us p u) r e h))
+
+pub unseated : (us : Users) (p u r : ℕ) → length (us .ids) ≡ 64 → r ≡ number 64 (attached us p u) → 64 ≤ r → place 64 64 ≡ attached us p u
+unfolding place
+unseated us p u r l e h = sym (number-none 64 (attached us p u) r e (rw l at (attached-inside us p u)) h)
 
 module _ {A : Type 0} (us : Users) (p u : ℕ) (act : ℕ → Effect A) where
   pub from-at : (i : ℕ) → attached us p u ≡ At i → from us p u act ≡ act i

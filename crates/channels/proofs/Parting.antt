@@ -4,7 +4,7 @@ use mathlib.Core.Bool.{Bool, true, false, _&&_, _||_}
 use mathlib.Core.List.{List, [], _∷_, map}
 use mathlib.Core.Option.{Option, none, some}
 use Prim.Native.Nat.{ℕ, zero, suc, _+_, _≤_, _<_, min}
-use native.Mathlib.Nat.{min-eq-left, min-eq-right}
+use native.Mathlib.Nat.{min-eq-left, min-eq-right, min-le-right}
 use native.Mathlib.Numerals.{add-one}
 use native.Mathlib.Omega.{arith}
 use borrow.Author.Tests.{eq-eqb, ne-eqb, ltb-true, ltb-false}
@@ -32,6 +32,9 @@ take-least xs count n r l e = go (ltb count n) refl
     go false q =
         ap (λ (k : ℕ). take k xs) (e ∙ min-eq-right (ltb-false count n q))
         ∙ take-all n xs (omega arith) ∙ sym (take-all count xs (omega (arith, ltb-false count n q)))
+
+pub least-le : (count n r : ℕ) → r ≡ min count n → r ≤ n
+least-le count n r e = omega (arith, min-le-right count n)
 
 pub take-count : (xs : List ℕ) (n r : ℕ) → n ≡ length xs → r ≤ n → r ≡ length (take r xs)
 take-count xs n r e h =

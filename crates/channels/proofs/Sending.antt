@@ -14,6 +14,7 @@ use Rattle.records.specs.Records.{Sent, to, tell, wire, framed, records}
 use Rattle.records.specs.Out.{Puts, guarded, told}
 use Rattle.records.proofs.Laying.{put-fits, guarded-in}
 use Rattle.records.proofs.Telling.{records-one, told-is}
+use Rattle.channels.specs.Whole.{whole}
 use Rattle.domain.specs.Effects.{Settled, Effect, ignored, done, settled, sends, settle}
 
 -- the octets of a message that is sent to one, and to many
@@ -24,17 +25,21 @@ module _ (m : List ℕ) (s : Message) (e : m ≡ wire s) (l : length m ≤ 1024)
   pub many-sent : (mask : ℕ) → guarded 0 m (told mask m) ≡ records (tell mask s)
   many-sent mask = guarded-in 0 m (told mask m) (omega arith) l ∙ ap (told mask) e ∙ told-is mask s
 
--- a run of the records that tells their size, and one that writes them
-module _ {A : Type 0} (before after : A) (rs : List Sent) (out t : List ℕ) (n : ℕ) (size : Puts [] 0 (records rs) t n) where
-  pub sends-full : length out < n → settled 9 0 before out ≡ sends 0 before after rs out
-  unfolding sends
-  sends-full h = rw (lt-ltb (length out) (length (records rs)) (omega (arith, size .next, zero-add (length (records rs))))) refl
+-- a run of octets that tells their size, and one that writes them
+module _ (os out t : List ℕ) (n : ℕ) (size : Puts [] 0 os t n) where
+  pub whole-full : length out < n → settled 9 0 tt out ≡ whole os out
+  unfolding whole
+  whole-full h = rw (lt-ltb (length out) (length os) (omega (arith, size .next, zero-add (length os)))) refl
 
-  pub sends-done : n ≤ length out → (o : List ℕ) (m : ℕ) → Puts out 0 (records rs) o m → settled 0 n after o ≡ sends 0 before after rs out
-  unfolding sends
-  sends-done h o m p =
-      let z : length (records rs) ≤ length out = omega (arith, size .next, zero-add (length (records rs))) in
-      rw (le-ltb (length out) (length (records rs)) z, put-fits p z, size .next, zero-add (length (records rs))) refl
+  pub whole-done : n ≤ length out → (o : List ℕ) (m : ℕ) → Puts out 0 os o m → settled 0 n tt o ≡ whole os out
+  unfolding whole
+  whole-done h o m p =
+      let z : length os ≤ length out = omega (arith, size .next, zero-add (length os)) in
+      rw (le-ltb (length out) (length os) z, put-fits p z, size .next, zero-add (length os)) refl
+
+pub whole-sends : (rs : List Sent) (os out : List ℕ) → os ≡ records rs → whole os out ≡ sends 0 tt tt rs out
+unfolding whole sends
+whole-sends rs os out e = rw e refl
 
 -- what was sent says what the tables are: as before where there was no room, else as after
 module _ {A : Type 0} (a b : A) (n k : ℕ) (rs : List Sent) (out o : List ℕ) (e : settled {A = Unit {0}} n k tt o ≡ sends 0 tt tt rs out) where

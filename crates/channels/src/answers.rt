@@ -1,16 +1,14 @@
 // What every request does: it looks whether a limit is reached, and sends its records whole or not at all.
 ghost use mathlib.Core.Path.{_≡_};
-ghost use mathlib.Core.Bool.{Bool};
-ghost use mathlib.Core.List.{[], _∷_};
-ghost use Prim.Native.Nat.{_≤_, _<_, min};
+ghost use Prim.Native.Nat.{min};
 ghost use lib.Dec.{eqb};
-ghost use lib.ListN.{length};
-ghost use Rattle.places.specs.Places.{At, Nowhere};
-ghost use Rattle.messages.specs.Named.{Message};
-ghost use Rattle.records.specs.Records.{to, wire, tell as tellOf};
+ghost use Rattle.records.specs.Records.{framed};
+ghost use Rattle.records.specs.Out.{guarded, told};
 ghost use Rattle.domain.specs.Tables.{at-limit, users-of, attached};
 ghost use Rattle.domain.specs.Numbers.{replyNumber};
-ghost use Rattle.domain.specs.Effects.{answered, settled, sends};
+ghost use Rattle.domain.specs.Effects.{answered};
+ghost use Rattle.tables.specs.Numbered.{place};
+ghost use Rattle.channels.specs.Whole.{unanswered, whole};
 use domain::answer::Answer;
 use domain::numbers::Reply;
 
@@ -23,8 +21,7 @@ pub fn at_limit(limit: u8, ids: &[u16]) -> bool
 
 // The place of an initiator, which must be attached on p; 64 is nowhere.
 pub fn initiator(names: &[u16; 64], homes: &[u8; 64], p: u8, u: u16) -> usize
-    ensures { λ r. ⌜ (r < 64 → attached (users-of (now (names .entry)) (now (homes .entry))) p u ≡ At r)
-        × (64 ≤ r → attached (users-of (now (names .entry)) (now (homes .entry))) p u ≡ Nowhere) ⌝ }
+    ensures { λ r. ⌜ place 64 r ≡ attached (users-of (now (names .entry)) (now (homes .entry))) p u ⌝ }
 {
     let all = &names[..];
     let i = tables::users::attached(names, homes, p, u);
@@ -33,14 +30,14 @@ pub fn initiator(names: &[u16; 64], homes: &[u8; 64], p: u8, u: u16) -> usize
 
 // Of n listed ids the first `count`: how many there are.
 pub fn at_most(count: usize, n: usize) -> usize
-    ensures { λ r. ⌜ (r ≡ min count n) × (r ≤ n) ⌝ }
+    ensures { λ r. ⌜ r ≡ min count n ⌝ }
 {
     if count < n { count } else { n }
 }
 
 // A request is ignored.
 pub fn ignored() -> Answer
-    ensures { λ r. ⌜ (replyNumber (r .reply) ≡ 1) × (r .sent ≡ 0) ⌝ }
+    ensures { λ r. ⌜ r ≡ unanswered ⌝ }
 {
     Answer {
         reply: Reply::Ignored,
@@ -58,8 +55,7 @@ pub fn refused(a: Answer) -> bool
 
 // A message to p, where there is room for its record.
 pub fn confirm(out: &mut [u8], p: u8, m: &[u8]) -> Answer
-    ensures { λ r. ⌜ ((s : Message) → now (m .entry) ≡ wire s → length (now (m .entry)) ≤ 1024
-        → answered {A = Unit {0}} r tt (now (out .exit)) ≡ sends 0 tt tt (to p s ∷ []) (now (out .entry))) ⌝ }
+    ensures { λ r. ⌜ answered {A = Unit {0}} r tt (now (out .exit)) ≡ whole (guarded 0 (now (m .entry)) (framed (now (m .entry)) p)) (now (out .entry)) ⌝ }
 {
     let total = records::put_record(&mut [], p, m);
     if out.len() < total {
@@ -77,8 +73,7 @@ pub fn confirm(out: &mut [u8], p: u8, m: &[u8]) -> Answer
 
 // A message to each connection of a mask, where there is room for all its records.
 pub fn tell(out: &mut [u8], mask: u16, m: &[u8]) -> Answer
-    ensures { λ r. ⌜ ((s : Message) → now (m .entry) ≡ wire s → length (now (m .entry)) ≤ 1024
-        → answered {A = Unit {0}} r tt (now (out .exit)) ≡ sends 0 tt tt (tellOf mask s) (now (out .entry))) ⌝ }
+    ensures { λ r. ⌜ answered {A = Unit {0}} r tt (now (out .exit)) ≡ whole (guarded 0 (now (m .entry)) (told mask (now (m .entry)))) (now (out .entry)) ⌝ }
 {
     let total = records::tell(&mut [], 0, mask, m);
     if out.len() < total {

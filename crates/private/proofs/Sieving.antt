@@ -154,13 +154,9 @@ pub seats-all : (f : ℕ → Bool) (i m : ℕ) → 64 ≤ i → Seats f i m → 
 seats-all f i m h s = is-those 64 m f (s .fits) (λ k l. s .passed k (omega arith))
 
 -- who is listed, by place
-abbrev pub sits : (names homes list : List ℕ) (i : ℕ) → Bool
-sits names homes list i = member (name (users-of names homes) i) list
+abbrev pub sits : (names list : List ℕ) (i : ℕ) → Bool
+sits names list i = member (getD names i 0) list
 
-pub sits-is : (names homes list : List ℕ) (i : ℕ) (b : Bool) → b ≡ member (getD names i 0) list → b ≡ sits names homes list i
-unfolding name
-sits-is names homes list i b e = e
-
-pub seats-are : (names homes list : List ℕ) (m : ℕ) → m ≡ those 64 (sits names homes list) → m ≡ places (users-of names homes) list
-unfolding places
+pub seats-are : (names homes list : List ℕ) (m : ℕ) → m ≡ those 64 (sits names list) → m ≡ places (users-of names homes) list
+unfolding places name
 seats-are names homes list m e = e

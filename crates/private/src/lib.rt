@@ -152,8 +152,8 @@ enum Pick {
 }
 
 // A user that is admitted, by a mask of places.
-fn admitted(names: &[u16; 64], adm: u64, homes: &[u8; 64], v: u16) -> bool
-    ensures { λ r. ⌜ r ≡ admittedIn (users-of (now (names .entry)) (now (homes .entry))) adm v ⌝ }
+fn admitted(names: &[u16; 64], adm: u64, v: u16) -> bool
+    ensures { λ r. ⌜ ((homes : List ℕ) → r ≡ admittedIn (users-of (now (names .entry)) homes) adm v) ⌝ }
 {
     let i = places::columns::find(names, v);
     if i < 64 {
@@ -168,7 +168,7 @@ fn picks(names: &[u16; 64], homes: &[u8; 64], k: Pick, before: &[u16], x: u16) -
     match k {
         Pick::New => !places::columns::member(before, x),
         Pick::Attached => places::columns::find(names, x) < 64,
-        Pick::Admitted(adm) => admitted(names, adm, homes, x),
+        Pick::Admitted(adm) => admitted(names, adm, x),
         Pick::On(q) => answers::initiator(names, homes, q, x) < 64,
     }
 }
@@ -230,8 +230,8 @@ fn seat_one(m: u64, counts: bool, i: u8) -> u64
 }
 
 // The places of listed users.
-fn seats_of(names: &[u16; 64], homes: &[u8; 64], list: &[u16]) -> u64
-    ensures { λ r. ⌜ r ≡ placesOf (users-of (now (names .entry)) (now (homes .entry))) (now (list .entry)) ⌝ }
+fn seats_of(names: &[u16; 64], list: &[u16]) -> u64
+    ensures { λ r. ⌜ ((homes : List ℕ) → r ≡ placesOf (users-of (now (names .entry)) homes) (now (list .entry))) ⌝ }
 {
     let ids = &names[..];
     let mut m: u64 = 0;
@@ -350,7 +350,7 @@ pub fn admit(
         return a;
     }
     let ch = tables::channels::channel_at(roles, chairs, guests, marks, j);
-    let come = seats_of(names, homes, &kept[..n]);
+    let come = seats_of(names, &kept[..n]);
     let now = Channel {
         role: ch.role,
         chair: ch.chair,
@@ -404,7 +404,7 @@ pub fn expel(
     if answers::refused(a) {
         return a;
     }
-    let stay = places::masks::other_seats(ch.guests, seats_of(names, homes, &kept[..n]));
+    let stay = places::masks::other_seats(ch.guests, seats_of(names, &kept[..n]));
     let mask = homes_of(names, homes, ch.chair, stay);
     let now = Channel {
         role: ch.role,

@@ -3,6 +3,5 @@ pub mod Turning
 pub mod Rejecting
 pub mod Limiting
 pub mod Understanding
-pub mod Requesting
 pub mod Replies
 pub mod Room

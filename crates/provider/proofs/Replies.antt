@@ -24,7 +24,7 @@ use Rattle.domain.specs.Leaving.{close}
 use Rattle.domain.specs.Effects.{Effect, ignored, done, Settled, answered}
 use Rattle.domain.specs.Events.{Reading, reads, refuses, Event, opens, loses, hears, Outcome, stays, sends, ends, complaint, act, answers, step-with, step}
 use Rattle.provider.specs.Provider.{number-in, read-as, understood}
-use Rattle.provider.specs.Requests.{reply-for}
+use Rattle.provider.specs.Readings.{reply-for}
 use Rattle.provider.proofs.Understanding.{reply-for-is}
 
 -- ---- events as they come: a message is what is understood of its octets

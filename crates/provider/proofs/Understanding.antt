@@ -27,7 +27,8 @@ use Rattle.domain.specs.Effects.{Effect}
 use Rattle.domain.specs.Events.{Reading, reads, refuses, act, answers, ends, sends, complaint}
 use Rattle.provider.specs.declared.reading.Understood.{Understood}
 use Rattle.provider.specs.Provider.{number-in, read-as, understood}
-use Rattle.provider.specs.Requests.{token-request, private-request, channel-request, user-request, request, reply-for, requested, asks, Understands, Asked}
+use Rattle.requests.specs.Requests.{token-request, private-request, channel-request, user-request, request}
+use Rattle.provider.specs.Readings.{reply-for, requested, asks, Understands, Asked}
 
 -- ---- the tests, in their order
 module _ (os : List ℕ) where

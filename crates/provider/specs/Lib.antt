@@ -1,2 +1,2 @@
 pub mod Provider
-pub mod Requests
+pub mod Readings

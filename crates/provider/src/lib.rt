@@ -3,7 +3,6 @@
 mod answers;
 pub mod asking;
 mod reading;
-mod serving;
 pub mod starting;
 
 ghost use mathlib.Core.Path.{_≡_};
@@ -96,7 +95,7 @@ pub fn message(
         return answers::refuse(p, reply, octets, out);
     }
     let listed = u.listed;
-    serving::request(
+    requests::request(
         limits,
         links,
         names,

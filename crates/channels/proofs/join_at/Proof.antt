@@ -1,79 +1,53 @@
-use mathlib.Core.Path.{sym, ap, _∙_}
+use mathlib.Core.Path.{sym, _∙_}
 use native.Mathlib.Omega.{arith}
-use Rattle.domain.specs.Tables.{Channels, set-channel, channels-of}
+use Rattle.domain.specs.Tables.{set-channel}
 use Rattle.channels.proofs.Entering.{join-denied, join-refused, join-done}
 use borrow.Author.Needs.{needs}
 use Rattle.channels.proofs.join_at.Statement.{statement}
 use Rattle.channels.proofs.join_at.Tie as tie
-use Rattle.channels.proofs.join_at.Reads as reads
-use Rattle.channels.proofs.join_at.Lts as lts
-use Rattle.channels.proofs.answers.refused.Reads as refused-reads
-use Rattle.channels.proofs.confirms.deny_join.Reads as deny-join-reads
-use Rattle.channels.proofs.confirms.take_join.Reads as take-join-reads
-use Rattle.domain.proofs.channel.kind_of.Reads as kind-of-reads
-use Rattle.domain.proofs.channel.may_join.Reads as may-join-reads
-use Rattle.domain.proofs.numbers.result_number.Reads as result-number-reads
-use Rattle.places.proofs.masks.with_link.Reads as with-link-reads
-use Rattle.tables.proofs.channels.channel_at.Reads as channel-at-reads
-use Rattle.tables.proofs.channels.set_channel.Reads as set-channel-reads
 
--- src/lib.rt:82:9
 channel-at-requires : tie.Need-channel-at-requires
 channel-at-requires c κs = tt
 
--- src/lib.rt:83:44
 kind-of-requires : tie.Need-kind-of-requires
 kind-of-requires c κs = tt
 
--- src/lib.rt:83:9
 may-join-requires : tie.Need-may-join-requires
 may-join-requires c κs = tt
 
--- src/lib.rt:84:12
 result-number-requires : tie.Need-result-number-requires
 result-number-requires c κs = tt
 
--- src/lib.rt:85:9
 deny-join-requires : tie.Need-deny-join-requires
 deny-join-requires c κs = tt
 
--- src/lib.rt:85:9
 same-length : tie.Need-same-length
 same-length c = search needs
 
--- src/lib.rt:85:9
 returns : tie.Need-returns
 returns c ids = join-denied _ _ _ _ _ _ _ _ _ (c .before .before .before .before .before .before .before .before .channel-at .ensures) (c .before .before .before .before .before .before .before .kind-of .ensures) (c .before .before .before .before .before .before .may-join .ensures) _ _ _ _ (omega (arith, c .before .before .before .before .before .result-number .ensures, c .before .before .before .before .if1 .taken)) (c .before .before .deny-join .ensures)
 
--- src/lib.rt:87:9
 take-join-requires : tie.Need-take-join-requires
 take-join-requires c κs = tt
 
--- src/lib.rt:88:8
 refused-requires : tie.Need-refused-requires
 refused-requires c κs = tt
 
--- src/lib.rt:89:9
 same-length-2 : tie.Need-same-length-2
 same-length-2 c = search needs
 
--- src/lib.rt:89:9
 returns-2 : tie.Need-returns-2
 returns-2 c ids = join-refused _ _ _ _ _ _ _ _ _ (c .before .before .before .before .before .before .before .before .before .before .channel-at .ensures) (c .before .before .before .before .before .before .before .before .before .kind-of .ensures) (c .before .before .before .before .before .before .before .before .may-join .ensures) _ _ _ _ (omega (arith, c .before .before .before .before .before .before .before .result-number .ensures, c .before .before .before .before .before .before .if1 .left)) (c .before .before .before .before .take-join .ensures) (sym (c .before .refused .ensures) ∙ c .if2 .taken)
 
--- src/lib.rt:95:16
 with-link-requires : tie.Need-with-link-requires
 with-link-requires c κs = tt
 
--- src/lib.rt:97:5
 set-channel-requires : tie.Need-set-channel-requires
 set-channel-requires c κs = tt
 
--- src/lib.rt:65:1
 same-length-3 : tie.Need-same-length-3
 same-length-3 c = search needs
 
--- src/lib.rt:65:1
 returns-3 : tie.Need-returns-3
 unfolding set-channel
 returns-3 c ids = join-done _ _ _ _ _ _ _ _ _ (c .before .before .before .before .before .before .before .before .before .before .before .before .before .before .before .before .channel-at .ensures) (c .before .before .before .before .before .before .before .before .before .before .before .before .before .before .before .kind-of .ensures) (c .before .before .before .before .before .before .before .before .before .before .before .before .before .before .may-join .ensures) _ _ _ _ (omega (arith, c .before .before .before .before .before .before .before .before .before .before .before .before .before .result-number .ensures, c .before .before .before .before .before .before .before .before .before .before .before .before .if1 .left)) (c .before .before .before .before .before .before .before .before .before .before .take-join .ensures) (sym (c .before .before .before .before .before .before .before .refused .ensures) ∙ c .before .before .before .before .before .before .if2 .left) _ _ (c .before .before .before .before .before .with-link .ensures) (λ i. record { ids = ids; cells = c .set-channel .ensures i })

@@ -4,67 +4,47 @@ use Rattle.channels.proofs.Entering.{new-unknown, new-full, new-assigne
 use borrow.Author.Needs.{needs}
 use Rattle.channels.proofs.join_new.Statement.{statement}
 use Rattle.channels.proofs.join_new.Tie as tie
-use Rattle.channels.proofs.join_new.Reads as reads
-use Rattle.channels.proofs.join_new.Lts as lts
-use Rattle.channels.proofs.answers.at_limit.Reads as at-limit-reads
-use Rattle.channels.proofs.confirms.deny_join.Reads as deny-join-reads
-use Rattle.channels.proofs.start.Reads as start-reads
-use Rattle.places.proofs.columns.unused.Reads as unused-reads
 
--- src/lib.rt:148:9
 deny-join-requires : tie.Need-deny-join-requires
 deny-join-requires c κs = tt
 
--- src/lib.rt:148:9
 same-length : tie.Need-same-length
 same-length c = search needs
 
--- src/lib.rt:148:9
 returns : tie.Need-returns
 returns c = new-unknown _ _ _ _ _ _ _ _ _ _ (c .before .before .before .before .if1 .taken) (c .before .before .deny-join .ensures)
 
--- src/lib.rt:150:8
 at-limit-requires : tie.Need-at-limit-requires
 at-limit-requires c κs = tt
 
--- src/lib.rt:151:9
 deny-join-requires-2 : tie.Need-deny-join-requires-2
 deny-join-requires-2 c κs = tt
 
--- src/lib.rt:151:9
 same-length-2 : tie.Need-same-length-2
 same-length-2 c = search needs
 
--- src/lib.rt:151:9
 returns-2 : tie.Need-returns-2
 returns-2 c = new-full _ _ _ _ _ _ _ _ _ _ (c .before .before .before .before .before .before .before .before .if1 .left) (sym (c .before .before .before .before .before .at-limit .ensures) ∙ c .before .before .before .before .if2 .taken) (c .before .before .deny-join2 .ensures)
 
--- src/lib.rt:154:13
 unused-requires : tie.Need-unused-requires
 unused-requires c κs = tt
 
--- src/lib.rt:155:9
 start-requires : tie.Need-start-requires
 start-requires c κs = tt
 
--- src/lib.rt:155:9
 same-length-3 : tie.Need-same-length-3
 same-length-3 c = search needs
 
--- src/lib.rt:155:9
 returns-3 : tie.Need-returns-3
 unfolding grant
 returns-3 c = new-assigned _ _ _ _ _ _ (c .before .before .before .before .before .before .before .before .before .before .before .before .before .before .before .before .before .if1 .left) (sym (c .before .before .before .before .before .before .before .before .before .before .before .before .before .before .at-limit .ensures) ∙ c .before .before .before .before .before .before .before .before .before .before .before .before .before .if2 .left) _ _ (c .before .before .before .before .before .before .before .before .before .before .before .before .if3 .taken) (rw (c .before .before .before .before .before .before .before .before .before .unused .ensures) at (c .before .before .start .ensures))
 
--- src/lib.rt:157:5
 start-requires-2 : tie.Need-start-requires-2
 start-requires-2 c κs = tt
 
--- src/lib.rt:130:1
 same-length-4 : tie.Need-same-length-4
 same-length-4 c = search needs
 
--- src/lib.rt:130:1
 returns-4 : tie.Need-returns-4
 returns-4 c = new-static _ _ _ _ _ _ (c .before .before .before .before .before .before .before .before .before .before .before .before .before .before .if1 .left) (sym (c .before .before .before .before .before .before .before .before .before .before .before .at-limit .ensures) ∙ c .before .before .before .before .before .before .before .before .before .before .if2 .left) _ _ (c .before .before .before .before .before .before .before .before .before .if3 .left) (c .before .before .start2 .ensures)
 

@@ -3,33 +3,22 @@ use Rattle.channels.proofs.Parting.{joined-at, joined-nowhere}
 use borrow.Author.Needs.{needs}
 use Rattle.channels.proofs.joined.Statement.{statement}
 use Rattle.channels.proofs.joined.Tie as tie
-use Rattle.channels.proofs.joined.Reads as reads
-use Rattle.channels.proofs.joined.Lts as lts
-use Rattle.places.proofs.columns.find.Reads as find-reads
-use Rattle.places.proofs.masks.has.Reads as has-reads
-use Rattle.tables.proofs.channels.channel_at.Reads as channel-at-reads
 
--- src/lib.rt:208:9
 find-requires : tie.Need-find-requires
 find-requires c κs = tt
 
--- src/lib.rt:210:13
 channel-at-requires : tie.Need-channel-at-requires
 channel-at-requires c κs = tt
 
--- src/lib.rt:211:35
 cast-has : tie.Need-cast-has
 cast-has c = search needs
 
--- src/lib.rt:211:9
 has-requires : tie.Need-has-requires
 has-requires c κs = tt
 
--- src/lib.rt:211:9
 returns : tie.Need-returns
 returns c = joined-at _ _ _ _ _ _ (find-at _ _ _ (c .before .before .before .before .find .ensures) (search needs)) (c .before .before .channel-at .ensures) (c .has .ensures)
 
--- src/lib.rt:197:1
 returns-2 : tie.Need-returns-2
 returns-2 c = joined-nowhere _ _ _ (find-nowhere _ _ _ (c .before .find .ensures) (search needs))
 

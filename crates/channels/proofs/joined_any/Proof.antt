@@ -8,9 +8,6 @@ use Rattle.domain.specs.Channels.{joined as joinedIn}
 use Rattle.channels.proofs.Parting.{any-here, any-later, any-over}
 use Rattle.channels.proofs.joined_any.Statement.{statement}
 use Rattle.channels.proofs.joined_any.Tie as tie
-use Rattle.channels.proofs.joined_any.Reads as reads
-use Rattle.channels.proofs.joined_any.Lts as lts
-use Rattle.channels.proofs.joined.Reads as joined-reads
 
 abbrev Inv-loop : tie.InvT-loop
 Inv-loop ids roles chairs guests marks p listed i₀ i = (i ≤ length listed) × (any (joinedIn (channels-of ids roles chairs guests marks) p) listed ≡ any (joinedIn (channels-of ids roles chairs guests marks) p) (drop i listed))
@@ -18,39 +15,30 @@ Inv-loop ids roles chairs guests marks p listed i₀ i = (i ≤ length listed) �
 abbrev μ-loop : tie.MeasureT-loop
 μ-loop ids roles chairs guests marks p listed i₀ i = length listed - i
 
--- src/lib.rt:229:5
 loop-holds : tie.Need-loop-holds Inv-loop μ-loop
 loop-holds c = (search needs, refl)
 
--- src/lib.rt:230:57
 mul-joined : tie.Need-mul-joined Inv-loop μ-loop
 mul-joined c = search needs
 
--- src/lib.rt:230:57
 shared-slice-read-joined : tie.Need-shared-slice-read-joined Inv-loop μ-loop
 shared-slice-read-joined c = search needs
 
--- src/lib.rt:230:12
 joined-requires : tie.Need-joined-requires Inv-loop μ-loop
 joined-requires c κs = tt
 
--- src/lib.rt:231:13
 returns : tie.Need-returns Inv-loop μ-loop
 returns c = sym (c .before .before .before .before .loop .inv .1 ∙ any-here _ _ _ (c .before .before .before .loop-test .taken) (sym (c .before .joined .ensures) ∙ c .if1 .taken))
 
--- src/lib.rt:233:9
 add-i : tie.Need-add-i Inv-loop μ-loop
 add-i c = search needs
 
--- src/lib.rt:229:5
 loop-less : tie.Need-loop-less Inv-loop μ-loop
 loop-less c = search needs
 
--- src/lib.rt:229:5
 loop-again : tie.Need-loop-again Inv-loop μ-loop
 loop-again c = (search needs, c .before .before .before .before .loop .inv .1 ∙ any-later _ _ _ (c .before .before .before .loop-test .taken) (sym (c .before .joined .ensures) ∙ c .if1 .left))
 
--- src/lib.rt:217:1
 returns-2 : tie.Need-returns-2 Inv-loop μ-loop
 returns-2 c = sym (c .before .loop .inv .1 ∙ any-over _ _ _ (c .loop-test .left))
 

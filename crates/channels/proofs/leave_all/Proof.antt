@@ -1,17 +1,12 @@
 use borrow.Author.Needs.{needs}
-use mathlib.Core.Path.{_≡_, sym, _∙_}
+use mathlib.Core.Path.{_≡_, _∙_}
 use Prim.Native.Nat.{_-_, _≤_}
-use native.Mathlib.Omega.{arith}
 use lib.ListN.{length}
 use Rattle.places.proofs.Places.{sweep-start}
 use Rattle.domain.specs.Tables.{channels-of, channel-cells}
 use Rattle.channels.proofs.Parting.{Leaving, leaving-turn, leaving-ids, leaving-cells, leaving-end}
 use Rattle.channels.proofs.leave_all.Statement.{statement}
 use Rattle.channels.proofs.leave_all.Tie as tie
-use Rattle.channels.proofs.leave_all.Reads as reads
-use Rattle.channels.proofs.leave_all.Lts as lts
-use Rattle.channels.proofs.leave_at.Reads as leave-at-reads
-use Rattle.channels.proofs.width.Reads as width-reads
 
 abbrev Inv-loop : tie.InvT-loop
 Inv-loop ids₀ roles₀ chairs₀ guests₀ marks₀ p listed n j₀ ids roles chairs guests marks j = (j ≤ n) × (n ≡ 128) × (length ids ≡ 128) × (length (channel-cells roles chairs guests marks) ≡ 128)
@@ -20,27 +15,21 @@ Inv-loop ids₀ roles₀ chairs₀ guests₀ marks₀ p listed n j₀ ids roles 
 abbrev μ-loop : tie.MeasureT-loop
 μ-loop ids₀ roles₀ chairs₀ guests₀ marks₀ p listed n j₀ ids roles chairs guests marks j = n - j
 
--- src/lib.rt:315:9
 width-requires : tie.Need-width-requires Inv-loop μ-loop
 width-requires c κs = tt
 
--- src/lib.rt:317:5
 loop-holds : tie.Need-loop-holds Inv-loop μ-loop
 loop-holds c = (search needs, search needs, search needs, search needs, sweep-start _ _ _ _)
 
--- src/lib.rt:318:9
 leave-at-requires : tie.Need-leave-at-requires Inv-loop μ-loop
 leave-at-requires c κs = search needs
 
--- src/lib.rt:319:9
 add-j : tie.Need-add-j Inv-loop μ-loop
 add-j c = search needs
 
--- src/lib.rt:317:5
 loop-less : tie.Need-loop-less Inv-loop μ-loop
 loop-less c = search needs
 
--- src/lib.rt:317:5
 loop-again : tie.Need-loop-again Inv-loop μ-loop
 loop-again c = (
   search needs,
@@ -50,7 +39,6 @@ loop-again c = (
   leaving-turn _ _ _ _ _ (c .leave-at .ensures) _ (c .before .before .before .before .before .before .before .loop .inv .4) (search needs) (search needs),
 )
 
--- src/lib.rt:303:1
 returns : tie.Need-returns Inv-loop μ-loop
 returns c = leaving-end _ _ _ _ _ (c .before .loop .inv .4) (search needs) (search needs)
 

@@ -1,64 +1,44 @@
 use mathlib.Core.Path.{sym, _∙_}
-use Rattle.domain.specs.Tables.{channels-of, set-channel}
+use Rattle.domain.specs.Tables.{set-channel}
 use Rattle.channels.proofs.Parting.{leave-free, leave-other, leave-ends, leave-stays}
 use borrow.Author.Needs.{needs}
 use Rattle.channels.proofs.leave_at.Statement.{statement}
 use Rattle.channels.proofs.leave_at.Tie as tie
-use Rattle.channels.proofs.leave_at.Reads as reads
-use Rattle.channels.proofs.leave_at.Lts as lts
-use Rattle.channels.proofs.ends.Reads as ends-reads
-use Rattle.places.proofs.columns.member.Reads as member-reads
-use Rattle.places.proofs.masks.without_link.Reads as without-link-reads
-use Rattle.tables.proofs.channels.channel_at.Reads as channel-at-reads
-use Rattle.tables.proofs.channels.end_channel.Reads as end-channel-reads
-use Rattle.tables.proofs.channels.set_channel.Reads as set-channel-reads
 
--- src/lib.rt:263:13
 mul-c : tie.Need-mul-c
 mul-c c = search needs
 
--- src/lib.rt:263:13
 element-copy-out-c : tie.Need-element-copy-out-c
 element-copy-out-c c = search needs
 
--- src/lib.rt:265:9
 returns : tie.Need-returns
 returns c = leave-free _ _ _ _ (c .if1 .taken)
 
--- src/lib.rt:267:8
 member-requires : tie.Need-member-requires
 member-requires c κs = tt
 
--- src/lib.rt:268:13
 channel-at-requires : tie.Need-channel-at-requires
 channel-at-requires c κs = tt
 
--- src/lib.rt:269:13
 without-link-requires : tie.Need-without-link-requires
 without-link-requires c κs = tt
 
--- src/lib.rt:270:12
 ends-requires : tie.Need-ends-requires
 ends-requires c κs = tt
 
--- src/lib.rt:271:13
 end-channel-requires : tie.Need-end-channel-requires
 end-channel-requires c κs = tt
 
--- src/lib.rt:272:13
 returns-2 : tie.Need-returns-2
 returns-2 c = leave-ends _ _ _ _ (c .before .before .before .before .before .before .before .before .before .before .before .before .before .before .before .before .if1 .left) (sym (c .before .before .before .before .before .before .before .before .before .before .before .before .before .before .before .member .ensures) ∙ c .before .before .before .before .before .before .before .before .before .before .before .before .before .before .if2 .taken) _ (c .before .before .before .before .before .before .before .before .before .channel-at .ensures) _ (c .before .before .before .before .before .before .before .before .without-link .ensures) _ _ (c .before .before .before .before .before .before .before .ends .ensures) (c .before .before .before .before .before .before .if3 .taken) (c .end-channel .ensures)
 
--- src/lib.rt:280:9
 set-channel-requires : tie.Need-set-channel-requires
 set-channel-requires c κs = tt
 
--- src/lib.rt:249:1
 returns-3 : tie.Need-returns-3
 unfolding set-channel
 returns-3 c = leave-stays _ _ _ _ (c .before .before .before .before .before .before .before .before .before .before .before .before .before .before .before .if1 .left) (sym (c .before .before .before .before .before .before .before .before .before .before .before .before .before .before .member .ensures) ∙ c .before .before .before .before .before .before .before .before .before .before .before .before .before .if2 .taken) _ (c .before .before .before .before .before .before .before .before .channel-at .ensures) _ (c .before .before .before .before .before .before .before .without-link .ensures) _ _ (c .before .before .before .before .before .before .ends .ensures) (c .before .before .before .before .before .if3 .left) (λ i. record { ids = c .before .before .before .before .before .before .before .before .before .before .before .before .before .before .before .before .before .before .args .ids .now; cells = c .set-channel .ensures i })
 
--- src/lib.rt:249:1
 returns-4 : tie.Need-returns-4
 returns-4 c = leave-other _ _ _ _ (c .before .before .if1 .left) (sym (c .before .member .ensures) ∙ c .if2 .left)
 

@@ -2,41 +2,29 @@ use Rattle.private.specs.Sieve.{says}
 use borrow.Author.Needs.{needs}
 use Rattle.private.proofs.compose.Statement.{statement}
 use Rattle.private.proofs.compose.Tie as tie
-use Rattle.private.proofs.compose.Reads as reads
-use Rattle.private.proofs.compose.Lts as lts
-use Rattle.records.proofs.compose.admit_indication.Reads as admit-indication-reads
-use Rattle.records.proofs.compose.expel_indication.Reads as expel-indication-reads
 
--- src/lib.rt:251:21
 enum-known-s : tie.Need-enum-known-s
 enum-known-s c = search needs
 
--- src/lib.rt:251:30
 admit-indication-requires : tie.Need-admit-indication-requires
 admit-indication-requires c κs = tt
 
--- src/lib.rt:252:21
 enum-known-s-2 : tie.Need-enum-known-s-2
 enum-known-s-2 c = search needs
 
--- src/lib.rt:252:27
 expel-indication-requires : tie.Need-expel-indication-requires
 expel-indication-requires c κs = tt
 
--- src/lib.rt:247:1
 same-length : tie.Need-same-length
 same-length c = search needs
 
--- src/lib.rt:247:1
 returns : tie.Need-returns
 unfolding says
 returns c = rw (c .before .before .before .before .before .s .given .1) (c .before .before .admit-indication .ensures)
 
--- src/lib.rt:247:1
 same-length-2 : tie.Need-same-length-2
 same-length-2 c = search needs
 
--- src/lib.rt:247:1
 returns-2 : tie.Need-returns-2
 unfolding says
 returns-2 c = rw (c .before .before .before .before .before .s2 .given .1) (c .before .before .expel-indication .ensures)

@@ -2,30 +2,22 @@ use Rattle.private.proofs.Sieving.{keep-yes, keep-no}
 use borrow.Author.Needs.{needs}
 use Rattle.private.proofs.keep_one.Statement.{statement}
 use Rattle.private.proofs.keep_one.Tie as tie
-use Rattle.private.proofs.keep_one.Reads as reads
-use Rattle.private.proofs.keep_one.Lts as lts
 
--- src/lib.rt:183:9
 mul-kept : tie.Need-mul-kept
 mul-kept c = search needs
 
--- src/lib.rt:183:9
 slice-write-kept : tie.Need-slice-write-kept
 slice-write-kept c = search needs
 
--- src/lib.rt:184:16
 add-result : tie.Need-add-result
 add-result c = search needs
 
--- src/lib.rt:184:9
 same-length : tie.Need-same-length
 same-length c = search needs
 
--- src/lib.rt:184:9
 returns : tie.Need-returns
 returns c = (keep-yes (c .before .args .kept .now) (c .before .args .n) (c .before .args .x) _ (c .if1 .taken) (search needs), search needs)
 
--- src/lib.rt:178:1
 returns-2 : tie.Need-returns-2
 returns-2 c = (keep-no (c .before .args .kept .now) (c .before .args .n) (c .before .args .x) _ (c .if1 .left), search needs)
 

@@ -5,46 +5,34 @@ use Rattle.private.proofs.Managing.{private-is, owned-yes, owned-no}
 use borrow.Author.Needs.{needs}
 use Rattle.private.proofs.presides.Statement.{statement}
 use Rattle.private.proofs.presides.Tie as tie
-use Rattle.private.proofs.presides.Reads as reads
-use Rattle.private.proofs.presides.Lts as lts
-use Rattle.domain.proofs.channel.kind_of.Reads as kind-of-reads
 
--- src/lib.rt:62:9
 kind-of-requires : tie.Need-kind-of-requires
 kind-of-requires c κs = tt
 
--- src/lib.rt:64:32
 enum-told : tie.Need-enum-told
 enum-told c = search needs
 
--- src/lib.rt:65:25
 enum-told-2 : tie.Need-enum-told-2
 enum-told-2 c = search needs
 
--- src/lib.rt:66:23
 enum-told-3 : tie.Need-enum-told-3
 enum-told-3 c = search needs
 
--- src/lib.rt:67:27
 enum-told-4 : tie.Need-enum-told-4
 enum-told-4 c = search needs
 
--- src/lib.rt:58:1
 returns : tie.Need-returns
 returns c = let is = private-is (c .before .before .before .before .args .ch) _ _ (sym (c .before .before .before .kind-of .ensures) ∙ c .before .enum-told .given .1) in
     (λ t act. owned-yes _ _ is act t, λ f act. owned-no _ _ is act f)
 
--- src/lib.rt:58:1
 returns-2 : tie.Need-returns-2
 unfolding owned
 returns-2 c = (λ t. absurd (false≢true t), λ f act. rw (sym (c .before .before .kind-of .ensures) ∙ c .enum-told2 .given .1) refl)
 
--- src/lib.rt:58:1
 returns-3 : tie.Need-returns-3
 unfolding owned
 returns-3 c = (λ t. absurd (false≢true t), λ f act. rw (sym (c .before .before .kind-of .ensures) ∙ c .enum-told3 .given .1) refl)
 
--- src/lib.rt:58:1
 returns-4 : tie.Need-returns-4
 unfolding owned
 returns-4 c = (λ t. absurd (false≢true t), λ f act. rw (sym (c .before .before .kind-of .ensures) ∙ c .enum-told4 .given .1) refl)

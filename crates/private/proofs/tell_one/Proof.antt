@@ -1,62 +1,44 @@
 use native.Mathlib.Nat.{le-trans}
-use mathlib.Core.Path.{refl, sym, ap, _∙_}
-use native.Mathlib.Omega.{arith}
+use mathlib.Core.Path.{refl}
 use Rattle.channels.proofs.Parting.{take-count}
 use Rattle.private.proofs.Hearing.{take-within, said-inside, said-count, said, said-short, own-silent, own-sent}
 use borrow.Author.Needs.{needs}
 use Rattle.private.proofs.tell_one.Statement.{statement}
 use Rattle.private.proofs.tell_one.Tie as tie
-use Rattle.private.proofs.tell_one.Reads as reads
-use Rattle.private.proofs.tell_one.Lts as lts
-use Rattle.private.proofs.compose.Reads as compose-reads
-use Rattle.private.proofs.sieve.Reads as sieve-reads
-use Rattle.records.proofs.send.Reads as send-reads
 
--- src/lib.rt:262:52
 slice-aggregate-sieve : tie.Need-slice-aggregate-sieve
 slice-aggregate-sieve c = search needs
 
--- src/lib.rt:262:9
 sieve-requires : tie.Need-sieve-requires
 sieve-requires c κs = search needs
 
--- src/lib.rt:264:9
 returns : tie.Need-returns
 returns c = own-silent _ _ _ _ _ _ (c .before .before .sieve .ensures .0) (c .if1 .taken) _ _
 
--- src/lib.rt:267:21
 slice-aggregate-compose : tie.Need-slice-aggregate-compose
 slice-aggregate-compose c = search needs
 
--- src/lib.rt:267:32
 array-share-prefix-mine : tie.Need-array-share-prefix-mine
 array-share-prefix-mine c = search needs
 
--- src/lib.rt:267:32
 slice-aggregate-compose-2 : tie.Need-slice-aggregate-compose-2
 slice-aggregate-compose-2 c = take-count _ _ _ refl (rw (c .before .before .before .before .sieve .kept .1 .1 .1 .1 .0) (le-trans (c .before .before .before .before .sieve .ensures .1) (c .before .before .before .before .before .before .before .before .pre .1)))
 
--- src/lib.rt:267:9
 compose-requires : tie.Need-compose-requires
 compose-requires c κs = tt
 
--- src/lib.rt:268:31
 array-share-prefix-m : tie.Need-array-share-prefix-m
 array-share-prefix-m c = said-inside _ _ (take-within _ _ 64 (le-trans (c .before .before .before .before .before .before .before .sieve .ensures .1) (c .before .before .before .before .before .before .before .before .before .before .before .pre .1))) refl (c .before .before .compose .ensures)
 
--- src/lib.rt:268:31
 slice-aggregate-send : tie.Need-slice-aggregate-send
 slice-aggregate-send c = said-count _ _ (take-within _ _ 64 (le-trans (c .before .before .before .before .before .before .before .before .sieve .ensures .1) (c .before .before .before .before .before .before .before .before .before .before .before .before .pre .1))) refl (c .before .before .before .compose .ensures)
 
--- src/lib.rt:268:5
 send-requires : tie.Need-send-requires
 send-requires c κs = tt
 
--- src/lib.rt:257:1
 same-length : tie.Need-same-length
 same-length c = search needs
 
--- src/lib.rt:257:1
 returns-2 : tie.Need-returns-2
 returns-2 c = let short = take-within (c .before .before .before .before .before .before .before .before .before .before .before .sieve .result) (c .before .before .before .before .before .before .before .before .before .before .before .sieve .last .1 .1 .1 .1 .0) 64 (le-trans (c .before .before .before .before .before .before .before .before .before .before .before .sieve .ensures .1) (c .before .before .before .before .before .before .before .before .before .before .before .before .before .before .before .pre .1)) in
     own-sent _ _ _ _ _ _ (c .before .before .before .before .before .before .before .before .before .before .before .sieve .ensures .0) (c .before .before .before .before .before .before .before .before .before .if1 .left) (rw (c .before .before .before .before .before .before .before .before .before .before .before .sieve .kept .1 .1 .1 .1 .0) (le-trans (c .before .before .before .before .before .before .before .before .before .before .before .sieve .ensures .1) (c .before .before .before .before .before .before .before .before .before .before .before .before .before .before .before .pre .1))) _

@@ -1,6 +1,6 @@
 use mathlib.Core.Path.{sym, _∙_}
 use Rattle.provider.specs.Provider.{understood}
-use Rattle.provider.specs.Requests.{requested}
+use Rattle.provider.specs.Readings.{requested}
 use Rattle.provider.proofs.Turning.{not-true, not-false, shut-hears, open-served, open-refused}
 use Rattle.provider.proofs.Understanding.{refused-asks, requested-asks}
 use borrow.Author.Needs.{needs}
@@ -12,7 +12,7 @@ use Rattle.domain.proofs.numbers.reply_number.Reads as reply-number-reads
 use Rattle.provider.proofs.answers.is_open.Reads as is-open-reads
 use Rattle.provider.proofs.answers.refuse.Reads as refuse-reads
 use Rattle.provider.proofs.reading.understand.Reads as understand-reads
-use Rattle.provider.proofs.serving.request.Reads as request-reads
+use Rattle.requests.proofs.request.Reads as request-reads
 
 -- src/lib.rt:76:9
 is-open-requires : tie.Need-is-open-requires

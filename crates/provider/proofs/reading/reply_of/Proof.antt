@@ -1,6 +1,6 @@
 use mathlib.Core.Path.{refl}
 use borrow.Author.Tests.{ne-eqb}
-use Rattle.provider.specs.Requests.{reply-for}
+use Rattle.provider.specs.Readings.{reply-for}
 use Rattle.provider.proofs.reading.reply_of.Statement.{statement}
 use Rattle.provider.proofs.reading.reply_of.Tie as tie
 use Rattle.provider.proofs.reading.reply_of.Reads as reads

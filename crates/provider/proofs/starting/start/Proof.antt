@@ -39,5 +39,3 @@ returns-2 c = rw (sym (c .before .before .before .before .before .before .before
 
 pub start-spec : {M : Type 1} → statement M
 start-spec = tie.close (tie.spec in-range-requires returns cast-t20 cast-t21 cast-t22 returns-2)
-
--- touched

@@ -1,11 +1,11 @@
-// A request on an open connection, by its number.
+// A request on an open connection, by its number: on lent columns, with any contents.
 ghost use mathlib.Core.Path.{_≡_};
 ghost use Prim.Native.Nat.{ℕ};
 ghost use lib.ListN.{take};
 ghost use Rattle.domain.specs.Tables.{Channels, Tokens, users-of, channels-of, tokens-of, domain-of, grant};
 ghost use Rattle.domain.specs.Effects.{answered, settle};
 ghost use Rattle.domain.specs.Events.{act};
-ghost use Rattle.provider.specs.Requests.{joined, token-request, private-request, channel-request, user-request, request as requestOf};
+ghost use Rattle.requests.specs.Requests.{joined, token-request, private-request, channel-request, user-request, request as requestOf};
 use domain::Limits;
 use domain::answer::Answer;
 use domain::numbers::Reply;
