@@ -1,4 +1,4 @@
-/* Times reading and writing a token message, and the stack that they touch. Least processor time of many tries. */
+/* Times reading and writing a token message, and a grab and a release by the provider, with the stack that they touch. Least processor time of many tries. */
 #define _GNU_SOURCE
 #include <pthread.h>
 #include <stdint.h>
@@ -10,8 +10,11 @@
 
 uint32_t read_many(const uint8_t *octets, size_t length, uint32_t rounds);
 uint32_t write_many(uint8_t *room, size_t length, uint32_t number, uint32_t rounds);
+uint32_t pass_many(const uint8_t *grab, size_t grabs, const uint8_t *release, size_t releases, uint32_t rounds);
 
 static const uint8_t grab[] = {0x74, 0x00, 0x06, 0x00, 0x00};
+static const uint8_t first_grab[] = {0x74, 0x00, 0x00, 0x00, 0x00};    /* TGrq by 1001 for token 1 */
+static const uint8_t first_release[] = {0x9C, 0x00, 0x00, 0x00, 0x00}; /* TRrq */
 static const uint8_t confirm[] = {0x7A, 0x40, 0x00, 0x06, 0x00, 0x00, 0x40};
 static uint8_t detach[131] = {0x30, 0x00, 0x40}; /* DUrq of 64 ids, all 1001 */
 static uint8_t room[16];
@@ -22,6 +25,7 @@ static void read_grab(void) { sink = read_many(grab, sizeof grab, rounds); }
 static void read_confirm(void) { sink = read_many(confirm, sizeof confirm, rounds); }
 static void read_detach(void) { sink = read_many(detach, sizeof detach, rounds); }
 static void write_confirm(void) { sink = write_many(room, sizeof room, 30, rounds); }
+static void pass(void) { sink = pass_many(first_grab, sizeof first_grab, first_release, sizeof first_release, rounds); }
 static void nothing(void) {}
 
 static double now(void)
@@ -83,5 +87,6 @@ int main(void)
     report("read TGcf", read_confirm);
     report("read DUrq of 64 ids", read_detach);
     report("write TGcf", write_confirm);
+    report("grab and release", pass);
     return 0;
 }
