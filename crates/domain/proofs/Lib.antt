@@ -1,3 +1,4 @@
 pub mod CellLaws
 pub mod Effects
 pub mod Opened
+pub mod invariant

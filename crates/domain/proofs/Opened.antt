@@ -8,7 +8,7 @@ use Rattle.places.specs.Sets.{keep, any, all, null, each, upto, member, firsts,
 use Rattle.places.specs.Places.{first, number, find, spare, found, seat, used, lesser, next, rising, inOrder, distinct, store, load, turns-to, becomes, sweep, every, unused}
 use Rattle.records.specs.Records.{tell, wire, framed, octets as octets-records, records}
 use Rattle.domain.specs.Cells.{kind, channel-of, with-marks, with-guests, hold, token-of}
-use Rattle.domain.specs.Tables.{channel-cells, token-cells, name, link, attached, add-user, stays-on, leave-place, remove-users, hosts, channel, add-channel, set-channel, end-channel, sweep-channels, members, lapses, marked, state, is-free, set-token, sweep-tokens, fresh, at-limit, grant}
+use Rattle.domain.specs.Tables.{channel-cells, token-cells, name, link, attached, add-user, stays-on, remove-users, hosts, channel, add-channel, set-channel, end-channel, sweep-channels, members, lapses, marked, state, is-free, set-token, sweep-tokens, fresh, between, in-range, at-limit, grant}
 use Rattle.domain.specs.Tokens.{status, inhibited, grab, inhibit, release, grabbed-by, offered-to, answered, party, lose-offer, lose}
 use Rattle.domain.specs.Effects.{from, within, sends, settle}
 use Rattle.domain.specs.Channels.{attach, may, join-at, join-new, join, joined, left, leave-channels, convene, owned, manages, disband, places, own, attached-of, admitted-of, admit, private, expel}
@@ -17,5 +17,5 @@ use Rattle.domain.specs.Passing.{turn, take-token, share-token, drop-tok
 use Rattle.domain.specs.Events.{users-full, channels-full, tokens-full, act, sends as sends-events, ends, complaint, answers, step-with, step}
 
 unfoldable pub opened : Unit {0}
-unfolding readLength size fewest counted readItem takeBits entry row may-go-up is-served is-covered takeField octetsOfMsg decode encode fields named formed octets heard keep any all null each upto member firsts once has those-from those with without minus meet union only listed first number find spare found seat used lesser next rising inOrder distinct store load turns-to becomes sweep every unused tell wire framed octets-records records kind channel-of with-marks with-guests hold token-of channel-cells token-cells name link attached add-user stays-on leave-place remove-users hosts channel add-channel set-channel end-channel sweep-channels members lapses marked state is-free set-token sweep-tokens fresh at-limit grant status inhibited grab inhibit release grabbed-by offered-to answered party lose-offer lose from within sends settle attach may join-at join-new join joined left leave-channels convene owned manages disband places own attached-of admitted-of admit private expel fate-of fate ended returned farewell leave those-on detach close turn take-token share-token drop-token offer informed answer please test users-full channels-full tokens-full act sends-events ends complaint answers step-with step
+unfolding readLength size fewest counted readItem takeBits entry row may-go-up is-served is-covered takeField octetsOfMsg decode encode fields named formed octets heard keep any all null each upto member firsts once has those-from those with without minus meet union only listed first number find spare found seat used lesser next rising inOrder distinct store load turns-to becomes sweep every unused tell wire framed octets-records records kind channel-of with-marks with-guests hold token-of channel-cells token-cells name link attached add-user stays-on remove-users hosts channel add-channel set-channel end-channel sweep-channels members lapses marked state is-free set-token sweep-tokens fresh between in-range at-limit grant status inhibited grab inhibit release grabbed-by offered-to answered party lose-offer lose from within sends settle attach may join-at join-new join joined left leave-channels convene owned manages disband places own attached-of admitted-of admit private expel fate-of fate ended returned farewell leave those-on detach close turn take-token share-token drop-token offer informed answer please test users-full channels-full tokens-full act sends-events ends complaint answers step-with step
 opened = tt

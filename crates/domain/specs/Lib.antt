@@ -7,3 +7,6 @@ pub mod Channels
 pub mod Leaving
 pub mod Passing
 pub mod Events
+pub mod Good
+pub mod History
+pub mod Claims

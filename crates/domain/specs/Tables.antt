@@ -80,12 +80,7 @@ add-user us u p = record { ids = store (us .ids) (spare (us .ids)) u; at = store
 unfoldable pub stays-on : (gone i u p : ℕ) → Option ℕ
 stays-on gone i u p = if has gone i then none else some p
 
--- one place, and every place
-unfoldable pub leave-place : (us : Users) (gone i : ℕ) → Users
-leave-place us gone i =
-    let b = becomes 0 (stays-on gone) i (getD (us .ids) i 0) (getD (us .at) i 0) in
-    record { ids = set (us .ids) i (b .0); at = set (us .at) i (b .1) }
-
+-- every place
 unfoldable pub remove-users : Users → ℕ → Users
 remove-users us gone =
     let left = sweep 0 (stays-on gone) 0 (us .ids) (us .at) in
@@ -183,6 +178,14 @@ put-tokens d ts = record { limits = d .limits; links = d .links; users = d .user
 
 abbrev pub put-both : Domain → Users × Channels → Domain
 put-both d b = record { limits = d .limits; links = d .links; users = b .0; channels = b .1; tokens = d .tokens }
+
+-- a number within a range
+unfoldable pub between : (a b x : ℕ) → Bool
+between a b x = leb a x && leb x b
+
+-- start limits: channel ids 1 to 128, user ids 1 to 64, tokens 1 to 64
+unfoldable pub in-range : Limits → Bool
+in-range l = between 1 128 (l .channels) && between 1 64 (l .users) && between 1 64 (l .tokens)
 
 -- a limit is reached. Channels in use count static, user id, private and assigned together
 unfoldable pub at-limit : (limit : ℕ) (ids : List ℕ) → Bool
