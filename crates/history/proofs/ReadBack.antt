@@ -1,0 +1,43 @@
+-- The records sent are read back from their octets. Assumes nothing.
+use mathlib.Core.Path.{_≡_, refl, sym, ap, _∙_}
+use mathlib.Core.List.{List, [], _∷_, _++_}
+use Prim.Native.Nat.{ℕ, zero, suc, _+_, _-_, _*_, _/_, _%_, _≤_, zero-le}
+use native.Mathlib.Omega.{arith}
+use borrow.Author.Tests.{le-leb}
+use lib.Dec.{leb, eqb}
+use lib.ListN.{length, getD, take, drop, length-append}
+use lib.Seq.{take-append-seam, drop-append-seam}
+use Rattle.places.specs.Sets.{if_then_else_}
+use Rattle.messages.specs.Limits.{message-limit}
+use Rattle.messages.specs.Codec.{ok}
+use Rattle.messages.specs.Named.{Message, formed, heard}
+use Rattle.messages.proofs.NamedLaws.{sizeOf, formed-sent, sent-heard}
+use Rattle.records.specs.Records.{Sent, to, wire, framed, octets, records}
+use Rattle.history.specs.Recorded.{size, is-record, carried, read-some, read-records}
+
+-- a message that the codec writes: fields in range, and not too long
+pub record Readable (m : Message) : Type 0 where
+  pub ranged : formed m ≡ true
+  pub few : sizeOf m ≤ message-limit
+
+abbrev pub Readables : List Sent → Type 0
+Readables [] = Unit {0}
+Readables (to q m ∷ rs) = Readable m × Readables rs
+
+wire-heard : (m : Message) → Readable m → heard (wire m) ≡ ok m
+unfolding wire
+wire-heard m r = sent-heard m (wire m) (formed-sent m (r .ranged) (r .few))
+
+-- ---- a record from the start of octets
+module _ (w : List ℕ) (q : ℕ) (rest : List ℕ) where
+  framed-size : size (framed w q ++ rest) ≡ length w + 2
+  unfolding size framed
+  framed-size = omega arith
+
+  framed-is : is-record (framed w q ++ rest) ≡ true
+  unfolding is-record framed
+  framed-is = rw (framed-size, le-leb 2 (length w + 2) (omega arith), le-leb (2 + (length w + 2)) (4 + length (w ++ rest)) (omega (arith, length-append w rest))) refl
+
+  framed-read : (n : ℕ) → read-some (suc n) (framed w q ++ rest) ≡ carried q (heard w) ++ read-some n rest
+  unfolding read-some framed
+  framed-read n = rw (framed-is, framed-size) ?

@@ -1,0 +1,69 @@
+-- Runs of the provider: what its public functions do, one call after another, by the definition that their promises name; and what is noted down.
+use Prim.Native.Nat.{ℕ}
+use mathlib.Core.Path.{_≡_}
+use mathlib.Core.List.{List, [], _∷_}
+use lib.ListN.{take}
+use Rattle.octets.specs.Octets.{Bytes}
+use Rattle.domain.specs.declared.answer.Answer.{Answer}
+use Rattle.domain.specs.Numbers.{replyNumber}
+use Rattle.domain.specs.Tables.{Domain}
+use Rattle.domain.specs.Effects.{Settled, answered}
+use Rattle.domain.specs.Events.{Event, opens, loses, hears}
+use Rattle.provider.specs.Provider.{understood, begun, after}
+use Rattle.history.specs.Recorded.{Call, opening, losing, message, Note, note}
+
+-- the event that `open`, `lose` and `message` promise to serve
+unfoldable pub event : Call → Event
+event (opening p) = opens p
+event (losing p) = loses p
+event (message p os) = hears p (understood os)
+
+-- a call, and what stood in the room lent to it
+abbrev pub Turn : Type 0
+Turn = Call × List ℕ
+
+-- octets are below 256; rooms are any
+abbrev pub Sendable : Call → Type 0
+Sendable (opening p) = Unit {0}
+Sendable (losing p) = Unit {0}
+Sendable (message p os) = Bytes os
+
+abbrev pub All-sendable : List Turn → Type 0
+All-sendable [] = Unit {0}
+All-sendable (t ∷ ts) = Sendable (t .0) × All-sendable ts
+
+-- the tables, and what was noted, the last first
+pub data Run : Type 0 where
+  run : Domain → List Note → Run
+
+unfoldable pub tables : Run → Domain
+tables (run d ns) = d
+
+unfoldable pub notes : Run → List Note
+notes (run d ns) = ns
+
+-- what a call leaves, and what is noted of it: the octets sent are the first of the room, as many as the answer says
+abbrev pub left : Run → Turn → Settled Domain
+left r t = after (tables r) (event (t .0)) (t .1)
+
+abbrev pub noted : Run → Turn → Note
+noted r t = note (t .0) (left r t .reply) (take (left r t .sent) (left r t .room))
+
+unfoldable pub served : Run → Turn → Run
+served r t = run (left r t .tables) (noted r t ∷ notes r)
+
+unfoldable pub serves : Run → List Turn → Run
+serves r [] = r
+serves r (t ∷ ts) = serves (served r t) ts
+
+-- a domain just made by `start`, whatever stood in its tables before
+unfoldable pub started : (channels users tokens : ℕ) (before : Domain) → Run
+started channels users tokens before = run (begun channels users tokens before .1) []
+
+-- ---- the same as the public functions relate it: each call takes the tables and a room, and leaves tables, a room and an answer as its promise says
+pub data Calls : Run → List Turn → Run → Type 0 where
+  no-more : {r : Run} → Calls r [] r
+  then-calls : {d e : Domain} {ns : List Note} {c : Call} {before behind : List ℕ} {ts : List Turn} {r : Run} (a : Answer)
+      → answered a e behind ≡ after d (event c) before
+      → Calls (run e (note c (replyNumber (a .reply)) (take (a .sent) behind) ∷ ns)) ts r
+      → Calls (run d ns) ((c, before) ∷ ts) r
