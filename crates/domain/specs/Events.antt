@@ -6,7 +6,7 @@ use lib.Dec.{eqb, ltb}
 use lib.ListN.{length, take}
 use Rattle.places.specs.Sets.{if_then_else_, has, with, links}
 use Rattle.messages.specs.Named.{Message, EDrq, DPum, RJum, AUrq, AUcf, DUrq, DUin, CJrq, CJcf, CLrq, CCrq, CCcf, CDrq, CDin, CArq, CAin, CErq, CEin}
-use Rattle.messages.specs.Named.{TGrq, TGcf, TIrq, TIcf, TVrq, TVin, TVrs, TVcf, TPrq, TPin, TRrq, TRcf, TTrq, TTcf}
+use Rattle.messages.specs.Named.{TGrq, TGcf, TIrq, TIcf, TVrq, TVin, TVrs, TVcf, TPrq, TPin, TRrq, TRcf, TTrq, TTcf, forbidden-PDU-upward, invalid-PER-encoding}
 use Rattle.records.specs.Records.{Sent, to, records}
 use Rattle.domain.specs.Tables.{Users, Channels, Domain, put-links, put-channels, put-tokens, put-both, at-limit, grant}
 use Rattle.domain.specs.Effects.{Effect, ignored, done, within}
@@ -89,8 +89,8 @@ ends d room (done e rs) = sends d room 0 e rs
 -- bad encoding: RJum, diagnostic 4, to p; a message that may not go up: diagnostic 2; with the first 16 octets, or all if fewer
 unfoldable pub complaint : (n p : ℕ) (octets : List ℕ) → List Sent
 complaint n p octets =
-    if eqb n 5 then to p (RJum 4 (take 16 octets)) ∷ []
-    else if eqb n 6 then to p (RJum 2 (take 16 octets)) ∷ []
+    if eqb n 5 then to p (RJum invalid-PER-encoding (take 16 octets)) ∷ []
+    else if eqb n 6 then to p (RJum forbidden-PDU-upward (take 16 octets)) ∷ []
     else []
 
 unfoldable pub answers : (new : ℕ) (d : Domain) (p : ℕ) (m : Reading) (room : ℕ) → Outcome

@@ -5,7 +5,7 @@ use mathlib.Core.List.{List, [], _∷_, _++_}
 use mathlib.Core.Option.{Option, none, some}
 use Rattle.places.specs.Sets.{if_then_else_, keep, null, each, once, has, without, with, minus, meet, links, seats}
 use Rattle.places.specs.Places.{Place, At, Nowhere, find, found, inOrder, load}
-use Rattle.messages.specs.Named.{DUin, CDin, TVcf, no-such-user}
+use Rattle.messages.specs.Named.{DUin, CDin, TVcf, no-such-user, domain-disconnected}
 use Rattle.records.specs.Records.{Sent, to, tell}
 use Rattle.domain.specs.declared.channel.Kind.{Kind}
 use Rattle.domain.specs.declared.channel.Kind.the-variants.{Static, User, Private, Assigned}
@@ -79,6 +79,6 @@ detach d p reason ids =
     let out = those-on (d .users) p (once ids) in
     if null out then ignored else leave d (d .links) reason out
 
--- DPum, RJum, loss. p closes; its users leave together, reason 0, ids ascending
+-- DPum, RJum, loss. p closes; its users leave together, reason 0 (domain disconnected), ids ascending
 unfoldable pub close : Domain → ℕ → Effect Domain
-close d p = leave d (without links (d .links) p) 0 (those-on (d .users) p (inOrder (d .users .ids)))
+close d p = leave d (without links (d .links) p) domain-disconnected (those-on (d .users) p (inOrder (d .users .ids)))

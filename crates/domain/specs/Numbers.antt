@@ -2,12 +2,15 @@
 use Prim.Native.Nat.{ℕ}
 use Rattle.messages.specs.Named.{successful, no-such-channel, no-such-user, not-admitted, other-user-id, token-not-available, token-not-possessed, too-many-channels, too-many-tokens, too-many-users}
 use Rattle.messages.specs.Named.{not-in-use, self-grabbed, other-grabbed, self-inhibited, other-inhibited, self-recipient, self-giving, other-giving}
+use Rattle.messages.specs.Named.{domain-disconnected, provider-initiated, token-purged, user-requested, channel-purged, forbidden-PDU-upward, invalid-PER-encoding}
 use Rattle.domain.specs.declared.numbers.Reply.{Reply}
 use Rattle.domain.specs.declared.numbers.Reply.the-variants.{Done, Ignored, NotOpen, OpenAlready, WrongLength, BadEncoding, MayNotGoUp, NotServed, TooLong, NoRoom, BadLimit, BadFrame}
 use Rattle.domain.specs.declared.numbers.Result.{Result}
 use Rattle.domain.specs.declared.numbers.Result.the-variants.{Successful, NoSuchChannel, NoSuchUser, NotAdmitted, OtherUserId, TokenNotAvailable, TokenNotPossessed, TooManyChannels, TooManyTokens, TooManyUsers}
 use Rattle.domain.specs.declared.numbers.Status.{Status}
 use Rattle.domain.specs.declared.numbers.Status.the-variants.{NotInUse, SelfGrabbed, OtherGrabbed, SelfInhibited, OtherInhibited, SelfRecipient, SelfGiving, OtherGiving}
+use Rattle.domain.specs.declared.numbers.Reason.{Reason}
+use Rattle.domain.specs.declared.numbers.Reason.the-variants.{DomainDisconnected, ProviderInitiated, TokenPurged, UserRequested, ChannelPurged}
 use Rattle.domain.specs.declared.numbers.Diagnostic.{Diagnostic}
 use Rattle.domain.specs.declared.numbers.Diagnostic.the-variants.{ForbiddenUpward, InvalidPer}
 
@@ -47,6 +50,13 @@ statusNumber SelfRecipient = self-recipient
 statusNumber SelfGiving = self-giving
 statusNumber OtherGiving = other-giving
 
+abbrev pub reasonNumber : Reason → ℕ
+reasonNumber DomainDisconnected = domain-disconnected
+reasonNumber ProviderInitiated = provider-initiated
+reasonNumber TokenPurged = token-purged
+reasonNumber UserRequested = user-requested
+reasonNumber ChannelPurged = channel-purged
+
 abbrev pub diagnosticNumber : Diagnostic → ℕ
-diagnosticNumber ForbiddenUpward = 2
-diagnosticNumber InvalidPer = 4
+diagnosticNumber ForbiddenUpward = forbidden-PDU-upward
+diagnosticNumber InvalidPer = invalid-PER-encoding

@@ -1,6 +1,6 @@
 // The numbers of document 01 and T.125 behind the names.
 ghost use mathlib.Core.Path.{_≡_};
-ghost use Rattle.domain.specs.Numbers.{replyNumber, resultNumber, statusNumber, diagnosticNumber};
+ghost use Rattle.domain.specs.Numbers.{replyNumber, resultNumber, statusNumber, reasonNumber, diagnosticNumber};
 
 // What an event is answered with.
 pub enum Reply {
@@ -91,6 +91,27 @@ pub fn status_number(s: Status) -> u8
         Status::SelfRecipient => 5,
         Status::SelfGiving => 6,
         Status::OtherGiving => 7,
+    }
+}
+
+// Why users leave, as DUin and DPum tell it.
+pub enum Reason {
+    DomainDisconnected,
+    ProviderInitiated,
+    TokenPurged,
+    UserRequested,
+    ChannelPurged,
+}
+
+pub fn reason_number(r: Reason) -> u8
+    ensures { λ n. ⌜ n ≡ reasonNumber r ⌝ }
+{
+    match r {
+        Reason::DomainDisconnected => 0,
+        Reason::ProviderInitiated => 1,
+        Reason::TokenPurged => 2,
+        Reason::UserRequested => 3,
+        Reason::ChannelPurged => 4,
     }
 }
 

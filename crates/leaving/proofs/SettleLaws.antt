@@ -8,6 +8,7 @@ use Rattle.places.specs.Sets.{null, without, once, links}
 use Rattle.places.specs.Places.{inOrder}
 use Rattle.records.specs.Records.{Sent, records}
 use Rattle.records.specs.Out.{Puts}
+use Rattle.messages.specs.Named.{domain-disconnected}
 use Rattle.domain.specs.declared.Limits.{Limits}
 use Rattle.domain.specs.Tables.{Users, Channels, Tokens, Domain, remove-users, sweep-channels, sweep-tokens}
 use Rattle.domain.specs.Tokens.{lose}
@@ -54,10 +55,10 @@ module _ (d : Domain) (p : ℕ) (out : List ℕ) where
     unfolding detach
     detach-some xs n h e = rw (e, h .held) refl
 
-  pub close-is : (xs : List ℕ) (n live : ℕ) → live ≡ without links (d .links) p → Holds xs n (those-on (d .users) p (inOrder (d .users .ids)))
-      → settle d (leave d live 0 (take n xs)) out ≡ settle d (close d p) out
+  pub close-is : (xs : List ℕ) (n live reason : ℕ) → live ≡ without links (d .links) p → reason ≡ domain-disconnected → Holds xs n (those-on (d .users) p (inOrder (d .users .ids)))
+      → settle d (leave d live reason (take n xs)) out ≡ settle d (close d p) out
   unfolding close
-  close-is xs n live e h = rw (h .held, e) refl
+  close-is xs n live reason e r h = rw (h .held, e, r) refl
 
 -- a contract for any limits, used for these
 abbrev pub no-limits : Limits

@@ -9,6 +9,7 @@ ghost use Rattle.domain.specs.Tables.{domain-of};
 ghost use Rattle.domain.specs.Effects.{settle, answered};
 ghost use Rattle.domain.specs.Leaving.{leave as leaveOf, detach as detachOf, close as closeOf};
 use domain::answer::Answer;
+use domain::numbers::Reason;
 use domain::numbers::Reply;
 
 // The first `count` of the list leave, and the connections `live` remain: the records twice, once to know their size; then the tables.
@@ -174,6 +175,7 @@ pub fn close(
         (closeOf (domain-of l (now (links .entry)) (now (names .entry)) (now (homes .entry)) (now (ids .entry)) (now (roles .entry))
         (now (chairs .entry)) (now (guests .entry)) (now (marks .entry)) (now (keys .entry)) (now (modes .entry)) (now (values .entry))) p) (now (out .entry))) ⌝ }
 {
+    let reason = domain::numbers::reason_number(Reason::DomainDisconnected);
     let mut list = [0u16; 64];
     let n = leavers::all_on(names, homes, p, &mut list);
     let live = places::masks::without_link(*links, p);
@@ -190,7 +192,7 @@ pub fn close(
         modes,
         values,
         live,
-        0,
+        reason,
         &list,
         n,
         out,

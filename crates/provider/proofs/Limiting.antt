@@ -1,28 +1,19 @@
 -- Limits in range, a fresh domain, and a channel's audience. Assumes nothing.
 use mathlib.Core.Path.{_≡_, refl, sym, ap, _∙_}
-use mathlib.Core.Bool.{Bool, true, false, _&&_}
+use mathlib.Core.Bool.{Bool, true}
 use mathlib.Core.List.{List}
 use Prim.Native.Nat.{ℕ, _≤_, _<_}
-use native.Mathlib.Omega.{arith}
-use borrow.Author.Tests.{leb-true}
-use lib.Dec.{leb}
 use lib.ListN.{length, getD}
 use Rattle.places.specs.Sets.{keep, upto, has, listed, links}
 use Rattle.places.specs.Places.{Place, At, Nowhere, find, load}
-use Rattle.places.proofs.Bools.{and-parts}
 use Rattle.domain.specs.declared.channel.Channel.{Channel}
 use Rattle.domain.specs.Cells.{no-channel}
-use Rattle.provider.specs.Provider.{up-to, in-range, audience}
+use Rattle.domain.specs.Tables.{in-range}
+use Rattle.domain.proofs.invariant.Sound.{limits-le}
+use Rattle.provider.specs.Provider.{limited, audience}
 
-at-most : (most n : ℕ) → up-to most n ≡ true → n ≤ most
-at-most most n e = leb-true n most (and-parts (leb 1 n) (leb n most) e .1)
-
-pub in-range-most : (b : Bool) (channels users tokens : ℕ) → b ≡ in-range channels users tokens → b ≡ true → (channels ≤ 128) × (users ≤ 64) × (tokens ≤ 64)
-unfolding in-range
-in-range-most b channels users tokens e h =
-    let r = and-parts (up-to 128 channels && up-to 64 users) (up-to 64 tokens) (sym e ∙ h) in
-    let q = and-parts (up-to 128 channels) (up-to 64 users) (r .0) in
-    (at-most 128 channels (q .0), at-most 64 users (q .1), at-most 64 tokens (r .1))
+pub in-range-most : (b : Bool) (channels users tokens : ℕ) → b ≡ in-range (limited channels users tokens) → b ≡ true → (channels ≤ 128) × (users ≤ 64) × (tokens ≤ 64)
+in-range-most b channels users tokens e h = limits-le (limited channels users tokens) (sym e ∙ h)
 
 -- a channel in use, and one that is not
 module _ (ids : List ℕ) (cells : List Channel) (c : ℕ) where

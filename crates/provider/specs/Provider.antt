@@ -1,8 +1,8 @@
 -- The provider: what it makes of the octets of a message, and what one event does to the domain and to the room lent for its answer.
 use Prim.Native.Nat.{ℕ, _/_}
-use mathlib.Core.Bool.{Bool, true, false, not, _&&_}
+use mathlib.Core.Bool.{Bool, true, false, not}
 use mathlib.Core.List.{List, [], _∷_, _++_}
-use lib.Dec.{eqb, leb, ltb}
+use lib.Dec.{eqb, ltb}
 use lib.ListN.{length, getD, drop}
 use Rattle.places.specs.Sets.{if_then_else_, listed, links}
 use Rattle.places.specs.Places.{find, load, used}
@@ -12,7 +12,7 @@ use Rattle.messages.specs.Named.{Message, heard}
 use Rattle.records.specs.Records.{records}
 use Rattle.domain.specs.declared.Limits.{Limits}
 use Rattle.domain.specs.Cells.{no-channel}
-use Rattle.domain.specs.Tables.{Channels, Domain, fresh}
+use Rattle.domain.specs.Tables.{Channels, Domain, fresh, in-range}
 use Rattle.domain.specs.Effects.{Settled, settled}
 use Rattle.domain.specs.Events.{Reading, reads, refuses, Event, step, Outcome as Stepped}
 
@@ -41,19 +41,12 @@ turned o out = settled (o .reply) (length (records (o .sent))) (o .domain) (reco
 unfoldable pub after : (d : Domain) (e : Event) (out : List ℕ) → Settled Domain
 after d e out = turned (step d e (length out)) out
 
--- start limits: channel ids 1 to 128, user ids 1 to 64, tokens 1 to 64
-abbrev pub up-to : (most n : ℕ) → Bool
-up-to most n = leb 1 n && leb n most
-
-unfoldable pub in-range : (channels users tokens : ℕ) → Bool
-in-range channels users tokens = up-to 128 channels && up-to 64 users && up-to 64 tokens
-
 -- 10: a start limit out of range, no domain; else a fresh domain with these limits
 abbrev pub limited : (channels users tokens : ℕ) → Limits
 limited channels users tokens = record { channels = channels; users = users; tokens = tokens }
 
 unfoldable pub begun : (channels users tokens : ℕ) (before : Domain) → ℕ × Domain
-begun channels users tokens before = if in-range channels users tokens then (0, fresh (limited channels users tokens)) else (10, before)
+begun channels users tokens before = if in-range (limited channels users tokens) then (0, fresh (limited channels users tokens)) else (10, before)
 
 -- A channel's audience, the number of connections joined (0 if not in use)
 unfoldable pub audience : (cs : Channels) (c : ℕ) → ℕ

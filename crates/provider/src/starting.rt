@@ -3,10 +3,10 @@ ghost use mathlib.Core.Path.{_≡_};
 ghost use mathlib.Core.List.{List};
 ghost use Prim.Native.Nat.{ℕ};
 ghost use Rattle.domain.specs.Numbers.{replyNumber};
-ghost use Rattle.domain.specs.Tables.{Domain, domain-of, put-links};
+ghost use Rattle.domain.specs.Tables.{Domain, domain-of, put-links, between, in-range};
 ghost use Rattle.domain.specs.Effects.{settled};
 ghost use Rattle.domain.specs.Events.{opens};
-ghost use Rattle.provider.specs.Provider.{up-to, in-range, limited, begun, after};
+ghost use Rattle.provider.specs.Provider.{limited, begun, after};
 use domain::Limits;
 use domain::numbers::Reply;
 
@@ -72,7 +72,7 @@ pub fn start(
 }
 
 fn in_range(channels: u32, users: u32, tokens: u32) -> bool
-    ensures { λ r. ⌜ r ≡ in-range channels users tokens ⌝ }
+    ensures { λ r. ⌜ r ≡ in-range (limited channels users tokens) ⌝ }
 {
     if !up_to(128, channels) {
         return false;
@@ -84,7 +84,7 @@ fn in_range(channels: u32, users: u32, tokens: u32) -> bool
 }
 
 fn up_to(most: u32, n: u32) -> bool
-    ensures { λ r. ⌜ r ≡ up-to most n ⌝ }
+    ensures { λ r. ⌜ r ≡ between 1 most n ⌝ }
 {
     if n < 1 {
         return false;

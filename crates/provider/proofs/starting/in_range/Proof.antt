@@ -1,5 +1,5 @@
 use mathlib.Core.Path.{refl, sym, _∙_}
-use Rattle.provider.specs.Provider.{in-range}
+use Rattle.domain.specs.Tables.{in-range}
 use Rattle.provider.proofs.Turning.{not-true, not-false}
 use borrow.Author.Needs.{needs}
 use Rattle.provider.proofs.starting.in_range.Statement.{statement}
