@@ -1,5 +1,6 @@
 -- The records sent are read back from their octets. Assumes nothing.
 use mathlib.Core.Path.{_≡_, refl, sym, ap, _∙_}
+use mathlib.Core.Bool.{true}
 use mathlib.Core.List.{List, [], _∷_, _++_}
 use Prim.Native.Nat.{ℕ, zero, suc, _+_, _-_, _*_, _/_, _%_, _≤_, zero-le}
 use native.Mathlib.Omega.{arith}
@@ -12,6 +13,7 @@ use Rattle.messages.specs.Limits.{message-limit}
 use Rattle.messages.specs.Codec.{ok}
 use Rattle.messages.specs.Named.{Message, formed, heard}
 use Rattle.messages.proofs.NamedLaws.{sizeOf, formed-sent, sent-heard}
+use Rattle.records.proofs.Laying.{framed-length}
 use Rattle.records.specs.Records.{Sent, to, wire, framed, octets, records}
 use Rattle.history.specs.Recorded.{size, is-record, carried, read-some, read-records}
 
@@ -36,8 +38,36 @@ module _ (w : List ℕ) (q : ℕ) (rest : List ℕ) where
 
   framed-is : is-record (framed w q ++ rest) ≡ true
   unfolding is-record framed
-  framed-is = rw (framed-size, le-leb 2 (length w + 2) (omega arith), le-leb (2 + (length w + 2)) (4 + length (w ++ rest)) (omega (arith, length-append w rest))) refl
+  framed-is =
+      let there = le-leb (2 + (length w + 2)) (length (framed w q ++ rest)) (omega (arith, length-append w rest)) in
+      rw (framed-size, le-leb 2 (length w + 2) (omega arith), there) refl
 
   framed-read : (n : ℕ) → read-some (suc n) (framed w q ++ rest) ≡ carried q (heard w) ++ read-some n rest
   unfolding read-some framed
-  framed-read n = rw (framed-is, framed-size) ?
+  framed-read n =
+      let shown : length w + 2 - 2 ≡ length w = omega arith in
+      let past : 2 + (length w + 2) ≡ suc (suc (suc (suc (length w)))) = omega arith in
+      rw (framed-is, framed-size, shown, past, take-append-seam w rest, drop-append-seam w rest) refl
+
+-- ---- all of them
+read-none : (n : ℕ) → read-some n [] ≡ []
+unfolding read-some is-record size
+read-none zero = refl
+read-none (suc n) = refl
+
+read-all : (rs : List Sent) (n : ℕ) → length rs ≤ n → Readables rs → read-some n (records rs) ≡ rs
+unfolding records octets carried
+read-all [] n h r = read-none n
+read-all (to q m ∷ rs) zero h r = absurd (omega arith)
+read-all (to q m ∷ rs) (suc n) h r =
+    framed-read (wire m) q (records rs) n
+    ∙ rw (wire-heard m (r .0), read-all rs n (omega arith) (r .1)) refl
+
+records-more : (rs : List Sent) → length rs ≤ length (records rs)
+unfolding records octets
+records-more [] = zero-le
+records-more (to q m ∷ rs) = omega (arith, records-more rs, length-append (framed (wire m) q) (records rs), framed-length (wire m) q)
+
+pub read-back : (rs : List Sent) → Readables rs → read-records (records rs) ≡ rs
+unfolding read-records
+read-back rs r = read-all rs (length (records rs)) (records-more rs) r
