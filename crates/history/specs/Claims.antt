@@ -14,7 +14,7 @@ use Rattle.domain.specs.History.{History, full, told, home, gain, held, alone, 
 use Rattle.domain.specs.Claims.{holder}
 use Rattle.provider.specs.Provider.{begun}
 use Rattle.history.specs.Recorded.{Note, message, read-note, read}
-use Rattle.history.specs.Served.{Turn, All-sendable, Run, tables, notes, noted, serves, started, Calls}
+use Rattle.history.specs.Served.{Turn, All-bytewise, Run, tables, notes, noted, serves, started, Calls}
 
 -- the history that the notes of a run are
 abbrev pub past : Run → History
@@ -48,11 +48,11 @@ module _ (r : Run) where
 module _ (channels users tokens : ℕ) (before : Domain) (ts : List Turn) where
   -- any limits that `start` takes, any calls with any octets and any rooms
   abbrev pub of-runs : Type 0
-  of-runs = begun channels users tokens before .0 ≡ 0 → All-sendable ts → Claims (serves (started channels users tokens before) ts) tokens
+  of-runs = begun channels users tokens before .0 ≡ 0 → All-bytewise ts → Claims (serves (started channels users tokens before) ts) tokens
 
   -- the same of what the public functions did
   abbrev pub of-calls : Type 0
-  of-calls = begun channels users tokens before .0 ≡ 0 → All-sendable ts → (r : Run) → Calls (started channels users tokens before) ts r → Claims r tokens
+  of-calls = begun channels users tokens before .0 ≡ 0 → All-bytewise ts → (r : Run) → Calls (started channels users tokens before) ts r → Claims r tokens
 
 abbrev pub demand-3 : Type 0
 demand-3 = (channels users tokens : ℕ) (before : Domain) (ts : List Turn) → of-runs channels users tokens before ts × of-calls channels users tokens before ts

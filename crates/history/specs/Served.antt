@@ -23,14 +23,14 @@ abbrev pub Turn : Type 0
 Turn = Call × List ℕ
 
 -- octets are below 256; rooms are any
-abbrev pub Sendable : Call → Type 0
-Sendable (opening p) = Unit {0}
-Sendable (losing p) = Unit {0}
-Sendable (message p os) = Bytes os
+abbrev pub Bytewise : Call → Type 0
+Bytewise (opening p) = Unit {0}
+Bytewise (losing p) = Unit {0}
+Bytewise (message p os) = Bytes os
 
-abbrev pub All-sendable : List Turn → Type 0
-All-sendable [] = Unit {0}
-All-sendable (t ∷ ts) = Sendable (t .0) × All-sendable ts
+abbrev pub All-bytewise : List Turn → Type 0
+All-bytewise [] = Unit {0}
+All-bytewise (t ∷ ts) = Bytewise (t .0) × All-bytewise ts
 
 -- the tables, and what was noted, the last first
 pub data Run : Type 0 where

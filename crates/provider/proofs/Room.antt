@@ -342,7 +342,7 @@ complaint-short n p os = bad (eqb n 5) (eqb n 6)
     bad true c = rejects 4 (omega arith)
     bad false c = forbidden c
 
-abbrev pub Formed : Reading → Type 0
+abbrev Formed : Reading → Type 0
 Formed (reads m) = formed m ≡ true
 Formed (refuses n os) = Unit {0}
 
@@ -350,7 +350,7 @@ either-formed : (b : Bool) (n : ℕ) (os : List ℕ) (x : Reading) → Formed x 
 either-formed true n os x h = tt
 either-formed false n os x h = h
 
-pub understood-formed : (os : List ℕ) → Bytes os → Formed (understood os)
+understood-formed : (os : List ℕ) → Bytes os → Formed (understood os)
 unfolding understood read-as
 understood-formed os y =
     either-formed (not (sized os)) 4 os _
