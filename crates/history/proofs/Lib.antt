@@ -5,3 +5,4 @@ pub mod Sendable
 pub mod Alike
 pub mod AsHeard
 pub mod Follows
+pub mod Demand
