@@ -1,3 +1,5 @@
 pub mod Sound
 pub mod Seats
 pub mod From
+pub mod Held
+pub mod Leavers
