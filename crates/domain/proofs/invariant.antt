@@ -2,4 +2,5 @@ pub mod Sound
 pub mod Seats
 pub mod From
 pub mod Held
+pub mod Rooms
 pub mod Leavers
