@@ -3,4 +3,5 @@ pub mod Seats
 pub mod From
 pub mod Held
 pub mod Rooms
+pub mod Joins
 pub mod Leavers
