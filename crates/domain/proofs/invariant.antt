@@ -4,4 +4,5 @@ pub mod From
 pub mod Held
 pub mod Rooms
 pub mod Joins
+pub mod Arrives
 pub mod Leavers
