@@ -26,9 +26,9 @@ use Rattle.domain.specs.Effects.{Effect, ignored, done, within}
 use Rattle.domain.specs.Channels.{may, join-at, join-new, join, joined, left, leave-channels, convene, owned, manages, disband, places, own, attached-of, admitted-of, admit, private, expel}
 use Rattle.domain.specs.Events.{channels-full}
 use Rattle.domain.proofs.invariant.Sound.{Seated, Host, Owned, Sort, ChannelRow, Sound, Fine}
-use Rattle.domain.proofs.invariant.Seats.{kind-of, with-marks-of, with-guests-of, seated-low}
+use Rattle.domain.proofs.invariant.Seats.{kind-of, with-marks-of, seated-low}
 use Rattle.domain.proofs.invariant.From.{Sits, from-fine}
-use Rattle.domain.proofs.invariant.Rooms.{in-hosts, with-channels, set-sound, end-sound, made-sound, sweep-owned, sweep-table, marked-user, marked-row}
+use Rattle.domain.proofs.invariant.Rooms.{in-hosts, guests-changed, with-channels, set-sound, end-sound, made-sound, sweep-owned, sweep-table, marked-user, marked-row}
 
 pub found-pos : (ids : List ℕ) (x : ℕ) → found (find ids x) ≡ true → 0 < x
 unfolding find found
@@ -225,10 +225,6 @@ module _ (d : Domain) (s : Sound d) (p u c : ℕ) where
       let e : Private m adm ≡ User = sym (kind-of (Private m adm) _) ∙ sym (ap kind (x .stored)) ∙ f in
       let z : _≡_ {A = ℕ} 0 1 = cc in omega (arith, z)
 
-  -- other users admitted, other connections joined
-  changed : {j m adm : ℕ} → Private-at d j m adm → (vs n : ℕ) → with-guests (channel (d .channels) j) vs n ≡ channel-of (Private m vs) n
-  changed {m} {adm} x vs n = ap (λ (y : Channel). with-guests y vs n) (x .stored) ∙ with-guests-of m adm _ vs n
-
   pub disband-fine : Fine (within (put-channels d) (disband (d .users) (d .channels) p u c))
   unfolding disband channel within
   disband-fine = manages-fine _ (λ j m adm x. end-sound d s j (x .used) (no-user x))
@@ -242,7 +238,7 @@ module _ (d : Domain) (s : Sound d) (p u c : ℕ) where
           (set-channel (d .channels) j (with-guests (channel (d .channels) j) (union seats adm (places (d .users) (attached-of (d .users) ids))) (channel (d .channels) j .marks)))
           (own (d .users) (attached-of (d .users) ids) (CAin u c))))
       go j m adm x true = tt
-      go j m adm x false = set-sound d s j (x .used) _ (Private m _) _ (changed x _ _) (x .joins) (
+      go j m adm x false = set-sound d s j (x .used) _ (Private m _) _ (guests-changed _ m adm _ (x .stored) _ _) (x .joins) (
         x .sort .0,
         x .sort .1,
         record {
@@ -262,7 +258,7 @@ module _ (d : Domain) (s : Sound d) (p u c : ℕ) where
           (set-channel (d .channels) j (private (d .users) (channel (d .channels) j) m (minus seats adm (places (d .users) (admitted-of (d .users) adm ids))) (channel (d .channels) j .marks)))
           (own (d .users) (admitted-of (d .users) adm ids) (CEin c))))
       go j m adm x true = tt
-      go j m adm x false = set-sound d s j (x .used) _ (Private m _) _ (changed x _ _) (marks-meet 16 _ _ (λ q a b. x .joins .are q a)) (
+      go j m adm x false = set-sound d s j (x .used) _ (Private m _) _ (guests-changed _ m adm _ (x .stored) _ _) (marks-meet 16 _ _ (λ q a b. x .joins .are q a)) (
         x .sort .0,
         x .sort .1,
         record {

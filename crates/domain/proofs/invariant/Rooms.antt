@@ -18,11 +18,11 @@ use Rattle.places.proofs.Table.{Table, table-by, table-set, table-clear, table-
 use Rattle.domain.specs.declared.channel.Kind.{Kind}
 use Rattle.domain.specs.declared.channel.Kind.the-variants.{Static, User, Private, Assigned}
 use Rattle.domain.specs.declared.channel.Channel.{Channel}
-use Rattle.domain.specs.Cells.{no-channel, kind, channel-of, with-marks}
+use Rattle.domain.specs.Cells.{no-channel, kind, channel-of, with-marks, with-guests}
 use Rattle.domain.specs.Tables.{Users, Channels, Domain, put-channels, add-channel, set-channel, end-channel, sweep-channels, lapses, marked, hosts, link, at-limit}
 use Rattle.domain.specs.Events.{channels-full}
 use Rattle.domain.proofs.invariant.Sound.{Host, Owned, Sort, ChannelRow, Sound, limits-le}
-use Rattle.domain.proofs.invariant.Seats.{kind-of, marks-of}
+use Rattle.domain.proofs.invariant.Seats.{kind-of, marks-of, with-guests-of}
 
 -- who is on a connection of `hosts`
 pub in-hosts : (us : Users) (who q : ℕ) → length (us .at) ≡ 64 → has (hosts us who) q ≡ true → Host us who q
@@ -40,6 +40,10 @@ row-of live us j c k m a x = record {
   joins = rw (marks-of k m) a;
   sort = rw (kind-of k m, marks-of k m) x;
 }
+
+-- a private channel as it is stored, with other users admitted and other connections joined
+pub guests-changed : (ch : Channel) (g us m : ℕ) → ch ≡ channel-of (Private g us) m → (vs n : ℕ) → with-guests ch vs n ≡ channel-of (Private g vs) n
+guests-changed ch g us m e vs n = ap (λ (y : Channel). with-guests y vs n) e ∙ with-guests-of g us m vs n
 
 module _ (d : Domain) (s : Sound d) where
   abbrev cid : ℕ → ℕ
