@@ -6,3 +6,4 @@ pub mod Rooms
 pub mod Joins
 pub mod Arrives
 pub mod Leavers
+pub mod Kept
