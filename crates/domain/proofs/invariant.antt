@@ -7,3 +7,8 @@ pub mod Joins
 pub mod Arrives
 pub mod Leavers
 pub mod Kept
+pub mod Tests
+pub mod RowTests
+pub mod GoodIsSound
+pub mod Fresh
+pub mod Invariant
