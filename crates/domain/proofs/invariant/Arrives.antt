@@ -22,7 +22,7 @@ use Rattle.domain.specs.declared.token.Holding.the-variants.{Free, Grabb
 use Rattle.domain.specs.declared.token.Token.{Token}
 use Rattle.domain.specs.Cells.{no-channel, kind, channel-of, hold}
 use Rattle.domain.specs.Tables.{Users, Channels, Domain, add-user, add-channel, put-links, put-both, at-limit}
-use Rattle.domain.specs.Effects.{Effect, done, within}
+use Rattle.domain.specs.Effects.{done, within}
 use Rattle.domain.specs.Channels.{attach}
 use Rattle.domain.specs.Events.{users-full, channels-full}
 use Rattle.domain.proofs.invariant.Sound.{Seated, UserRow, Sort, ChannelRow, Held, TokenRow, Sound, limits-le, Fine}

@@ -1,6 +1,6 @@
 -- A token's users are seated, and TGrq, TIrq, TRrq, TVrq, TVrs leave the tables sound. Assumes nothing.
 use mathlib.Core.Path.{_≡_, refl, sym, ap, _∙_, subst⁻¹}
-use mathlib.Core.Bool.{Bool, true, false, true≢false, false≢true}
+use mathlib.Core.Bool.{Bool, true, false, false≢true}
 use mathlib.Core.List.{[], _∷_}
 use Prim.Native.Nat.{ℕ, _≤_, _<_}
 use native.Mathlib.Omega.{arith}
@@ -16,7 +16,6 @@ use Rattle.messages.specs.Named.{Message, TGcf, TIcf, TRcf, TVcf, TVin, success
 use Rattle.records.specs.Records.{to}
 use Rattle.domain.specs.declared.token.Holding.{Holding}
 use Rattle.domain.specs.declared.token.Holding.the-variants.{Free, Grabbed, Inhibited, Giving, Given}
-use Rattle.domain.specs.declared.token.Token.{Token}
 use Rattle.domain.specs.Cells.{no-token, hold, token-of}
 use Rattle.domain.specs.Tables.{Users, Tokens, Domain, link, state, is-free, set-token, put-tokens, at-limit}
 use Rattle.domain.specs.Tokens.{Turned, fails, turns, status, grab, inhibit, release, inhibited, grabbed-by, offered-to, answered, lose-offer, lose}

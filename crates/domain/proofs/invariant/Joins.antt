@@ -8,7 +8,7 @@ use native.Mathlib.Omega.{arith}
 use lib.Dec.{eqb, ltb}
 use lib.ListN.{length, getD}
 use borrow.Author.Tests.{eqb-true, eqb-false, ltb-false}
-use Rattle.places.specs.Sets.{if_then_else_, any, null, keep, member, once, has, with, without, minus, meet, union, only, links, seats}
+use Rattle.places.specs.Sets.{if_then_else_, any, null, keep, member, once, has, with, without, minus, union, only, links, seats}
 use Rattle.places.specs.Places.{Place, At, Nowhere, first, find, found}
 use Rattle.places.proofs.Bools.{or-elim, some-is, and-parts}
 use Rattle.places.proofs.Digits.{those-lt}

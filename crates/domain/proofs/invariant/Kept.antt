@@ -10,7 +10,6 @@ use Rattle.places.specs.Sets.{if_then_else_, has, with, links}
 use Rattle.places.proofs.Bools.{or-parts}
 use Rattle.messages.specs.Named.{Message, EDrq, DPum, RJum, AUrq, AUcf, DUrq, DUin, CJrq, CJcf, CLrq, CCrq, CCcf, CDrq, CDin, CArq, CAin, CErq, CEin}
 use Rattle.messages.specs.Named.{TGrq, TGcf, TIrq, TIcf, TVrq, TVin, TVrs, TVcf, TPrq, TPin, TRrq, TRcf, TTrq, TTcf}
-use Rattle.messages.specs.Named.{formed as formed-message}
 use Rattle.messages.proofs.NamedLaws.{Ranges, ranges}
 use Rattle.records.specs.Records.{Sent, records}
 use Rattle.domain.specs.Tables.{Domain, put-links, put-tokens}

@@ -12,7 +12,7 @@ use Rattle.places.specs.Sets.{if_then_else_, null, once, has, with, without, mi
 use Rattle.places.specs.Places.{Place, At, Nowhere, find, found, inOrder, turns-to}
 use Rattle.places.proofs.Bools.{some-is, none≢some}
 use Rattle.places.proofs.Digits.{those-lt, has-those}
-use Rattle.places.proofs.Marks.{Marks, has-low, in-with, in-meet, in-minus, without-other, marks-map, marks-meet, marks-minus}
+use Rattle.places.proofs.Marks.{has-low, in-with, in-meet, in-minus, without-other, marks-map, marks-meet, marks-minus}
 use Rattle.places.proofs.Rows.{Apart, find-there, in-list, getD-any, find-holds}
 use Rattle.places.proofs.Table.{Table, table-sweep, sweep-used}
 use Rattle.places.proofs.Members.{member-at, member-keep}
