@@ -1,3 +1,14 @@
 pub mod Sound
 pub mod Seats
 pub mod From
+pub mod Held
+pub mod Rooms
+pub mod Joins
+pub mod Arrives
+pub mod Leavers
+pub mod Kept
+pub mod Tests
+pub mod RowTests
+pub mod GoodIsSound
+pub mod Fresh
+pub mod Invariant
