@@ -1,3 +1,4 @@
 pub mod Sound
 pub mod Seats
 pub mod From
+pub mod Tests
