@@ -42,52 +42,52 @@ apart-distinct (x ∷ ids) a = and-both (go (eqb x 0) refl (member x ids) refl) 
 
 -- ---- every place
 
-module _ {A : Type 0} (blank : A) where
-  module _ (g : ℕ → A → Bool) where
-    pub every-at : (k : ℕ) (ids : List ℕ) (cells : List A) → length ids ≡ length cells → every (λ i x c. g x c) k ids cells ≡ true
-        → (i : ℕ) → i < length ids → g (getD ids i 0) (getD cells i blank) ≡ true
-    unfolding every
-    every-at k [] cells l e i h = absurd (omega arith)
-    every-at k (x ∷ ids) [] l e i h = absurd (suc-ne-zero (length ids) l)
-    every-at k (x ∷ ids) (c ∷ cells) l e zero h = and-parts (g x c) _ e .0
-    every-at k (x ∷ ids) (c ∷ cells) l e (suc i) h = every-at (suc k) ids cells (suc-inj l) (and-parts (g x c) _ e .1) i (le-of-suc-le-suc h)
+module _ {A : Type 0} (blank : A) (g : ℕ → A → Bool) where
+  pub every-at : (k : ℕ) (ids : List ℕ) (cells : List A) → length ids ≡ length cells → every (λ i x c. g x c) k ids cells ≡ true
+      → (i : ℕ) → i < length ids → g (getD ids i 0) (getD cells i blank) ≡ true
+  unfolding every
+  every-at k [] cells l e i h = absurd (omega arith)
+  every-at k (x ∷ ids) [] l e i h = absurd (suc-ne-zero (length ids) l)
+  every-at k (x ∷ ids) (c ∷ cells) l e zero h = and-parts (g x c) _ e .0
+  every-at k (x ∷ ids) (c ∷ cells) l e (suc i) h = every-at (suc k) ids cells (suc-inj l) (and-parts (g x c) _ e .1) i (le-of-suc-le-suc h)
 
-    pub at-every : (k : ℕ) (ids : List ℕ) (cells : List A) → ((i : ℕ) → i < length ids → i < length cells → g (getD ids i 0) (getD cells i blank) ≡ true)
-        → every (λ i x c. g x c) k ids cells ≡ true
-    unfolding every
-    at-every k [] cells f = refl
-    at-every k (x ∷ ids) [] f = refl
-    at-every k (x ∷ ids) (c ∷ cells) f = and-both (f 0 (zero-lt-suc _) (zero-lt-suc _)) (at-every (suc k) ids cells (λ i h m. f (suc i) (suc-le-suc h) (suc-le-suc m)))
+  pub at-every : (k : ℕ) (ids : List ℕ) (cells : List A) → ((i : ℕ) → i < length ids → i < length cells → g (getD ids i 0) (getD cells i blank) ≡ true)
+      → every (λ i x c. g x c) k ids cells ≡ true
+  unfolding every
+  at-every k [] cells f = refl
+  at-every k (x ∷ ids) [] f = refl
+  at-every k (x ∷ ids) (c ∷ cells) f = and-both (f 0 (zero-lt-suc _) (zero-lt-suc _)) (at-every (suc k) ids cells (λ i h m. f (suc i) (suc-le-suc h) (suc-le-suc m)))
 
-  -- a table in order is one that passes the tests: of a place in use, and of a free place
-  module _ (n lim : ℕ) (ids : List ℕ) (cells : List A) (g : ℕ → A → Bool) (b : A → Bool) (P : ℕ → ℕ → A → Type 0) where
-    pub table-of : length ids ≡ n → length cells ≡ n → distinct ids ≡ true → used ids ≤ lim → every (λ i x c. eqb x 0 || g x c) 0 ids cells ≡ true
-        → every (λ i x c. ltb 0 x || b c) 0 ids cells ≡ true → ((i x : ℕ) (c : A) → 0 < x → g x c ≡ true → P i x c) → ((c : A) → b c ≡ true → c ≡ blank)
-        → Table n lim blank P ids cells
-    table-of s r dis count rows free f h = record {
-      ids-size = s;
-      cells-size = r;
-      apart = distinct-apart ids dis;
-      counted = count;
-      free = λ i e. void i e (ltb i (length ids)) refl;
-      rows = λ i l. f i _ _ l (rw (ne-eqb (getD ids i 0) 0 (λ z. omega arith)) at (every-at (λ x c. eqb x 0 || g x c) 0 ids cells (s ∙ sym r) rows i (in-list ids i l)));
-    }
-      where
-        void : (i : ℕ) → getD ids i 0 ≡ 0 → (t : Bool) → ltb i (length ids) ≡ t → getD cells i blank ≡ blank
-        void i e true l = h _ (rw (le-ltb 0 (getD ids i 0) (omega arith)) at (every-at (λ x c. ltb 0 x || b c) 0 ids cells (s ∙ sym r) free i (ltb-true i (length ids) l)))
-        void i e false l = List·getD-eq-default cells blank (let k : length ids ≤ i = ltb-false i (length ids) l in omega arith)
+-- ---- a table in order is one that passes the tests: of a place in use, and of a free place
 
-    module _ (t : Table n lim blank P ids cells) where
-      pub rows-of : ((i x : ℕ) (c : A) → 0 < x → P i x c → g x c ≡ true) → every (λ i x c. eqb x 0 || g x c) 0 ids cells ≡ true
-      rows-of f = at-every (λ x c. eqb x 0 || g x c) 0 ids cells (λ i h m. go i (eqb (getD ids i 0) 0) refl)
-        where
-          go : (i : ℕ) (c : Bool) → eqb (getD ids i 0) 0 ≡ c → (c || g (getD ids i 0) (getD cells i blank)) ≡ true
-          go i true e = refl
-          go i false e = let z : getD ids i 0 ≡ 0 → ⊥ = eqb-false (getD ids i 0) 0 e in let l : 0 < getD ids i 0 = omega arith in f i _ _ l (t .rows i l)
+module _ {A : Type 0} {blank : A} {n lim : ℕ} {P : ℕ → ℕ → A → Type 0} {ids : List ℕ} {cells : List A} where
+  pub table-of : (g : (ℕ → A → Bool)) (b : (A → Bool)) → length ids ≡ n → length cells ≡ n → distinct ids ≡ true → used ids ≤ lim
+      → every (λ i x c. eqb x 0 || g x c) 0 ids cells ≡ true → every (λ i x c. ltb 0 x || b c) 0 ids cells ≡ true
+      → ((i x : ℕ) (c : A) → 0 < x → g x c ≡ true → P i x c) → ((c : A) → b c ≡ true → c ≡ blank)
+      → Table n lim blank P ids cells
+  table-of g b s r dis count rows free f h = record {
+    ids-size = s;
+    cells-size = r;
+    apart = distinct-apart ids dis;
+    counted = count;
+    free = λ i e. void i e (ltb i (length ids)) refl;
+    rows = λ i l. f i _ _ l (rw (ne-eqb (getD ids i 0) 0 (λ z. omega arith)) at (every-at blank (λ x c. eqb x 0 || g x c) 0 ids cells (s ∙ sym r) rows i (in-list ids i l)));
+  }
+    where
+      void : (i : ℕ) → getD ids i 0 ≡ 0 → (t : Bool) → ltb i (length ids) ≡ t → getD cells i blank ≡ blank
+      void i e true l = h _ (rw (le-ltb 0 (getD ids i 0) (omega arith)) at (every-at blank (λ x c. ltb 0 x || b c) 0 ids cells (s ∙ sym r) free i (ltb-true i (length ids) l)))
+      void i e false l = List·getD-eq-default cells blank (let k : length ids ≤ i = ltb-false i (length ids) l in omega arith)
 
-      pub free-of : b blank ≡ true → every (λ i x c. ltb 0 x || b c) 0 ids cells ≡ true
-      free-of h = at-every (λ x c. ltb 0 x || b c) 0 ids cells (λ i l m. go i (ltb 0 (getD ids i 0)) refl)
-        where
-          go : (i : ℕ) (c : Bool) → ltb 0 (getD ids i 0) ≡ c → (c || b (getD cells i blank)) ≡ true
-          go i true e = refl
-          go i false e = let z : getD ids i 0 ≤ 0 = ltb-false 0 (getD ids i 0) e in rw (t .free i (omega arith)) h
+  pub rows-of : Table n lim blank P ids cells → (g : (ℕ → A → Bool)) → ((i x : ℕ) (c : A) → 0 < x → P i x c → g x c ≡ true) → every (λ i x c. eqb x 0 || g x c) 0 ids cells ≡ true
+  rows-of t g f = at-every blank (λ x c. eqb x 0 || g x c) 0 ids cells (λ i h m. go i (eqb (getD ids i 0) 0) refl)
+    where
+      go : (i : ℕ) (c : Bool) → eqb (getD ids i 0) 0 ≡ c → (c || g (getD ids i 0) (getD cells i blank)) ≡ true
+      go i true e = refl
+      go i false e = let z : getD ids i 0 ≡ 0 → ⊥ = eqb-false (getD ids i 0) 0 e in let l : 0 < getD ids i 0 = omega arith in f i _ _ l (t .rows i l)
+
+  pub free-of : Table n lim blank P ids cells → (b : (A → Bool)) → b blank ≡ true → every (λ i x c. ltb 0 x || b c) 0 ids cells ≡ true
+  free-of t b h = at-every blank (λ x c. ltb 0 x || b c) 0 ids cells (λ i l m. go i (ltb 0 (getD ids i 0)) refl)
+    where
+      go : (i : ℕ) (c : Bool) → ltb 0 (getD ids i 0) ≡ c → (c || b (getD cells i blank)) ≡ true
+      go i true e = refl
+      go i false e = let z : getD ids i 0 ≤ 0 = ltb-false 0 (getD ids i 0) e in rw (t .free i (omega arith)) h
