@@ -9,14 +9,17 @@ use Rattle.conferences.specs.Private.{turns as private}
 use Rattle.conferences.specs.Joins.{turns as joins}
 use Rattle.conferences.specs.Limits.{turns as limits}
 
+-- the events are those of which the theorems speak
 pub formed : all all-formed conferences ≡ true
 unfolding opened conferences all-formed offers private joins limits
 formed = refl
 
+-- the tables are good
 pub good : all (always good-now) conferences ≡ true
 unfolding opened conferences onward always good-now offers private joins limits
 good = refl
 
+-- held by history is held by the table, offered by history is offered by the table
 pub agreed : all (always agrees) conferences ≡ true
 unfolding opened conferences onward always alike offered agrees-on agrees offers private joins limits
 agreed = refl

@@ -19,9 +19,11 @@ use Rattle.conferences.specs.Limits.{turns as limits}
 abbrev pub Conference : Type 0
 Conference = Limits × List Turn
 
+-- these limits, these events
 abbrev pub conference : (channels users tokens : ℕ) → List Turn → Conference
 conference c u t ts = (record { channels = c; users = u; tokens = t }, ts)
 
+-- the four, each with its limits
 unfoldable pub conferences : List Conference
 conferences = conference 128 64 64 offers ∷ conference 128 64 64 private ∷ conference 128 64 64 joins ∷ conference 4 3 1 limits ∷ []
 
@@ -34,9 +36,11 @@ unfoldable pub onward : (Run → Bool) → Run → List Turn → Bool
 onward f r [] = f r
 onward f r (t ∷ ts) = let rest = onward f (turned r t) ts in f r && rest
 
+-- and so from a fresh domain
 unfoldable pub always : (Run → Bool) → Conference → Bool
 always f c = onward f (run (fresh (c .0)) []) (c .1)
 
+-- the tables' rules hold
 unfoldable pub good-now : Run → Bool
 good-now r = good (now r)
 
