@@ -1,0 +1,13 @@
+pub mod Known
+pub mod Heard
+pub mod Agrees
+pub mod Silent
+pub mod Requests
+pub mod Offers
+pub mod Departures
+pub mod Newcomers
+pub mod Following
+pub mod Counting
+pub mod Claimed
+pub mod TooMany
+pub mod Demand

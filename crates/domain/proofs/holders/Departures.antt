@@ -1,0 +1,234 @@
+-- DUrq, DPum, RJum and loss: those who leave, for history, are those whose places are swept. Assumes nothing.
+use mathlib.Core.Path.{_≡_, refl, sym, ap, _∙_}
+use mathlib.Core.Bool.{Bool, true, false, not, _&&_, _||_, true≢false, and-false, and-true, or-false}
+use mathlib.Core.List.{List, [], _∷_}
+use mathlib.Core.Option.{Option, none, some}
+use Prim.Native.Nat.{ℕ, _<_}
+use native.Mathlib.Omega.{arith}
+use lib.Dec.{eqb}
+use borrow.Author.Tests.{ne-eqb, eqb-true}
+use Rattle.places.specs.Places.{Place, At, Nowhere, find, inOrder}
+use Rattle.places.specs.Sets.{if_then_else_, has, minus, meet, with, seats, links, without, all, any, null, member, firsts, once}
+use Rattle.messages.specs.Named.{DUrq, DUin, CDin, TVcf, no-such-user}
+use Rattle.records.specs.Records.{Sent, to, tell}
+use Rattle.places.proofs.Digits.{has-those, eqb-sym}
+use Rattle.places.proofs.Rows.{find-holds}
+use Rattle.places.proofs.Members.{member-at}
+use Rattle.places.proofs.Order.{in-order-has}
+use Rattle.domain.specs.Tables.{Users, Domain, name, link, state, sweep-tokens, remove-users, hosts}
+use Rattle.domain.specs.declared.channel.Kind.{Kind}
+use Rattle.domain.specs.declared.channel.Kind.the-variants.{Static, User, Private, Assigned}
+use Rattle.domain.specs.declared.token.Holding.{Holding}
+use Rattle.domain.specs.declared.token.Holding.the-variants.{Free, Grabbed, Inhibited, Giving, Given}
+use Rattle.domain.specs.Tokens.{lose, lose-offer, status}
+use Rattle.domain.specs.Events.{Event, hears, reads}
+use Rattle.domain.specs.Effects.{ignored}
+use Rattle.domain.specs.Leaving.{ended, returned, farewell, leave, those-on, detach, close}
+use Rattle.domain.specs.Channels.{places}
+use Rattle.domain.specs.History.{Entry, History, Word, detaches, closes, accepts, declines, code, same, is, sign, reading, asks, link-of, said, closed, leaves}
+use Rattle.domain.specs.History.{home, nothing, by-grab}
+use Rattle.domain.proofs.invariant.Sound.{Sound}
+use Rattle.domain.proofs.invariant.Leavers.{gone-is}
+use Rattle.domain.proofs.invariant.Held.{lose-held}
+use Rattle.domain.proofs.holders.Known.{state-swept, unless, find-left, link-left}
+use Rattle.domain.proofs.holders.Heard.{Mark, mark-mute, leaves-none, mute, mutes, arrives-none}
+use Rattle.domain.proofs.holders.Agrees.{Agrees, fine, seen, nobody, stand}
+use Rattle.domain.proofs.holders.Requests.{stand-inhibited}
+use Rattle.domain.proofs.holders.Silent.{all-append, all-each, tell-mute}
+
+-- ---- the records are not read
+
+users-mute : (live reason : ℕ) (ids : List ℕ) (b : Bool) → all mute (if b then [] else tell live (DUin reason ids)) ≡ true
+unfolding all mutes reading same code
+users-mute live reason ids true = refl
+users-mute live reason ids false = tell-mute live (DUin reason ids) refl
+
+ended-mute : (us : Users) (gone live c : ℕ) (k : Kind) → all mute (ended us gone live c k) ≡ true
+unfolding ended all mutes reading same code
+ended-mute us gone live c Static = refl
+ended-mute us gone live c User = refl
+ended-mute us gone live c (Private g adm) = go (has gone g) (meet links (hosts us (with seats adm g)) live)
+  where
+    go : (b : Bool) (m : ℕ) → all mute (if b then tell m (CDin c) else []) ≡ true
+    go true m = tell-mute m (CDin c) refl
+    go false m = refl
+ended-mute us gone live c Assigned = refl
+
+returned-mute : (us : Users) (gone k : ℕ) (h : Holding) → all mute (returned us gone k h) ≡ true
+unfolding returned all mute mutes reading same code
+returned-mute us gone k Free = refl
+returned-mute us gone k (Grabbed g) = refl
+returned-mute us gone k (Inhibited is) = refl
+returned-mute us gone k (Giving g r) = go (has gone r && not (has gone g)) (link us g) (name us g) (status (lose gone (Giving g r)) g)
+  where
+    go : (b : Bool) (q u s : ℕ) → all mute (if b then to q (TVcf no-such-user u k s) ∷ [] else []) ≡ true
+    go true q u s = refl
+    go false q u s = refl
+returned-mute us gone k (Given r) = refl
+
+farewell-mute : (d : Domain) (gone live reason : ℕ) (ids : List ℕ) → all mute (farewell d gone live reason ids) ≡ true
+unfolding farewell
+farewell-mute d gone live reason ids =
+    all-append mute _ _ (all-append mute _ _ (users-mute live reason ids (null ids)) (all-each mute _ (λ c. ended-mute (d .users) gone live c _) (inOrder (d .channels .ids))))
+    (all-each mute _ (λ k. returned-mute (d .users) gone k _) (inOrder (d .tokens .ids)))
+
+-- ---- a token keeps those who stay
+
+stand-lose : (gone i : ℕ) → i < 64 → has gone i ≡ false → (h : Holding) → stand (lose gone h) i ≡ stand h i
+unfolding stand lose lose-offer minus
+stand-lose gone i l q h = go h
+  where
+    stays : (g : ℕ) → has gone g ≡ true → eqb g i ≡ false
+    stays g e = ne-eqb g i (λ r. true≢false (sym e ∙ ap (has gone) r ∙ q))
+
+    holder : (g : ℕ) (b : Bool) → has gone g ≡ b → stand (if b then Free else Grabbed g) i ≡ (if eqb g i then by-grab else nothing, false)
+    holder g true e = rw (stays g e)
+    holder g false e = refl
+
+    recipient : (r : ℕ) (b : Bool) → has gone r ≡ b → stand (if b then Free else Given r) i ≡ (nothing, eqb r i)
+    recipient r true e = rw (stays r e)
+    recipient r false e = refl
+
+    both : (g r : ℕ) (b : Bool) → has gone g ≡ b → (c : Bool) → has gone r ≡ c → stand (lose-offer b c g r) i ≡ (if eqb g i then by-grab else nothing, eqb r i)
+    both g r true e true f = rw (stays g e, stays r f)
+    both g r true e false f = rw (stays g e)
+    both g r false e true f = rw (stays r f)
+    both g r false e false f = refl
+
+    go : (h : Holding) → stand (lose gone h) i ≡ stand h i
+    go Free = refl
+    go (Grabbed g) = holder g (has gone g) refl
+    go (Inhibited us) = stand-inhibited (minus seats us gone) i ∙ rw (has-those 64 (λ j. has us j && not (has gone j)) i l, q, and-true (has us i))
+    go (Giving g r) = both g r (has gone g) refl (has gone r) refl
+    go (Given r) = recipient r (has gone r) refl
+
+lose-free : (gone : ℕ) → lose gone Free ≡ Free
+unfolding lose
+lose-free gone = refl
+
+-- ---- the event: history's leavers are those of the mask
+
+module _ (h : History) (d : Domain) (g : Sound d) (a : Agrees h (d .users) (d .tokens)) (ev : Event) (gone : ℕ) (rs : List Sent) (dull : all mute rs ≡ true) where
+  abbrev e : Entry
+  e = record { event = ev; reply = 0; sent = rs }
+
+  -- where history hears that exactly the users at these places leave, the relation holds after they are swept
+  pub left-agrees : ((w : Word) → same w detaches ≡ false → (u k : ℕ) → said e (home h u) w u k ≡ false)
+      → ((u : ℕ) → leaves e (home h u) u ≡ seen (find (d .users .ids) u) false (has gone))
+      → Agrees (e ∷ h) (remove-users (d .users) gone) (sweep-tokens (lose gone) (d .tokens))
+  unfolding same code home
+  left-agrees unsaid away = record {
+    homes = λ u. arrives-none rs dull u (if leaves e (home h u) u then none else home h u)
+        ∙ rw (away u, a .homes u, find-left d g gone u) (house u (find (d .users .ids) u) refl);
+    marks = λ k u. mark-mute e h dull k u
+        ∙ rw (unsaid accepts refl u k, unsaid declines refl u k, away u, a .marks k u, state-swept d g (lose gone) (lose-free gone) (lose-held (d .users) (d .users) gone (λ i s q. s)) k, find-left d g gone u)
+        (hold k u (find (d .users .ids) u) refl);
+  }
+    where
+      house : (u : ℕ) (p : Place) → find (d .users .ids) u ≡ p → (if seen p false (has gone) then none else seen p none (λ i. some (link (d .users) i)))
+          ≡ seen (unless gone p) none (λ i. some (link (remove-users (d .users) gone) i))
+      house u (At i) q = on (has gone i) refl
+        where
+          on : (b : Bool) → has gone i ≡ b → (if b then none else some (link (d .users) i)) ≡ seen (if b then Nowhere else At i) none (λ i. some (link (remove-users (d .users) gone) i))
+          on true r = refl
+          on false r = ap some (sym (link-left d g gone u i q r))
+      house u Nowhere q = refl
+
+      hold : (k u : ℕ) (p : Place) → find (d .users .ids) u ≡ p
+          → (if seen p false (has gone) then nothing else seen p nobody (stand (state (d .tokens) k)) .0, if seen p false (has gone) then false else seen p nobody (stand (state (d .tokens) k)) .1)
+          ≡ seen (unless gone p) nobody (stand (lose gone (state (d .tokens) k)))
+      hold k u (At i) q = on (has gone i) refl
+        where
+          on : (b : Bool) → has gone i ≡ b → _≡_ {A = Mark} (if b then nothing else stand (state (d .tokens) k) i .0, if b then false else stand (state (d .tokens) k) i .1)
+              (seen (if b then Nowhere else At i) nobody (stand (lose gone (state (d .tokens) k))))
+          on true r = refl
+          on false r = sym (stand-lose gone i (omega (arith, find-holds (d .users .ids) u i q .1, g .users-are .ids-size)) r (state (d .tokens) k))
+      hold k u Nowhere q = refl
+
+-- ---- who leaves
+
+member-firsts : (u : ℕ) (before xs : List ℕ) → member u (firsts before xs) ≡ (member u xs && not (member u before))
+unfolding member any firsts
+member-firsts u before [] = refl
+member-firsts u before (x ∷ xs) = go (member x before) refl (eqb u x) refl (member-firsts u (x ∷ before) xs)
+  where
+    go : (b : Bool) → member x before ≡ b → (c : Bool) → eqb u x ≡ c → member u (firsts (x ∷ before) xs) ≡ (member u xs && not (eqb u x || member u before))
+        → member u (if b then firsts (x ∷ before) xs else x ∷ firsts (x ∷ before) xs) ≡ ((c || member u xs) && not (member u before))
+    go true p true q h = h ∙ rw (q, ap (λ (v : ℕ). member v before) (eqb-true u x q) ∙ p) (and-false (member u xs))
+    go true p false q h = h ∙ rw q
+    go false p true q h = rw (q, ap (λ (v : ℕ). member v before) (eqb-true u x q) ∙ p)
+    go false p false q h = rw (q, h) (rw q)
+
+member-once : (u : ℕ) (xs : List ℕ) → member u (once xs) ≡ member u xs
+unfolding once member any
+member-once u xs = member-firsts u [] xs ∙ and-true (member u xs)
+
+module _ (h : History) (d : Domain) (g : Sound d) (a : Agrees h (d .users) (d .tokens)) where
+  leave-fine : (ev : Event) (live reason : ℕ) (ids : List ℕ)
+      → ((rs : List Sent) (w : Word) → same w detaches ≡ false → (u k : ℕ) → said (record { event = ev; reply = 0; sent = rs }) (home h u) w u k ≡ false)
+      → ((rs : List Sent) (u : ℕ) → leaves (record { event = ev; reply = 0; sent = rs }) (home h u) u ≡ seen (find (d .users .ids) u) false (has (places (d .users) ids)))
+      → fine h d ev (leave d live reason ids)
+  unfolding leave
+  leave-fine ev live reason ids unsaid away = record {
+    agrees = left-agrees h d g a ev (places (d .users) ids) (farewell d (places (d .users) ids) live reason ids) (farewell-mute d _ live reason ids) (unsaid _) (away _);
+    limits = refl;
+  }
+
+  -- those on p who are listed leave, where history says so of each user that is found
+  gone-away : (e : Entry) (p : ℕ) (ids : List ℕ) → ((u i x : ℕ) → find (d .users .ids) u ≡ At i → leaves e (some x) u ≡ (eqb p x && member u ids))
+      → (u : ℕ) → leaves e (home h u) u ≡ seen (find (d .users .ids) u) false (has (places (d .users) (those-on (d .users) p ids)))
+  gone-away e p ids law u = ap (λ (at : Option ℕ). leaves e at u) (a .homes u) ∙ go (find (d .users .ids) u) refl
+    where
+      go : (x : Place) → find (d .users .ids) u ≡ x
+          → leaves e (seen x none (λ i. some (link (d .users) i))) u ≡ seen x false (has (places (d .users) (those-on (d .users) p ids)))
+      go (At i) q = law u i (link (d .users) i) q ∙ ap (λ (b : Bool). b && member u ids) (eqb-sym p (link (d .users) i)) ∙ sym (gone-is d g p u i q ids)
+      go Nowhere q = leaves-none e u
+
+  -- DUrq
+  module _ (p n : ℕ) (ids : List ℕ) (rs : List Sent) where
+    abbrev asked : Entry
+    asked = record { event = hears p (reads (DUrq n ids)); reply = 0; sent = rs }
+
+    said-detach : (at : Option ℕ) (w : Word) (u k : ℕ) → same w detaches ≡ false → said asked at w u k ≡ false
+    unfolding said is asks reading link-of
+    said-detach none w u k q = refl
+    said-detach (some x) w u k q = rw (q, and-false (eqb k 0 && member u ids)) (and-false (eqb p x))
+
+    leaves-detach : (x u : ℕ) → leaves asked (some x) u ≡ (eqb p x && member u (once ids))
+    unfolding leaves said closed is asks reading link-of same code
+    leaves-detach x u = rw (and-false (eqb p x), and-true (member u ids), member-once u ids) (or-false (eqb p x && member u ids))
+
+  -- those listed who are on its connection leave
+  pub detach-fine : (p n : ℕ) (ids : List ℕ) → fine h d (hears p (reads (DUrq n ids))) (detach d p n ids)
+  unfolding detach
+  detach-fine p n ids = go (null (those-on (d .users) p (once ids)))
+    where
+      go : (b : Bool) → fine h d (hears p (reads (DUrq n ids))) (if b then ignored else leave d (d .links) n (those-on (d .users) p (once ids)))
+      go true = tt
+      go false =
+          leave-fine _ (d .links) n (those-on (d .users) p (once ids)) (λ rs w q u k. said-detach p n ids rs (home h u) w u k q)
+          (λ rs. gone-away (asked p n ids rs) p (once ids) (λ u i x q. leaves-detach p n ids rs x u))
+
+  -- DPum, RJum, loss
+  module _ (ev : Event) (p : ℕ) (closing : asks ev ≡ sign closes [] 0) (on : link-of ev ≡ p) where
+    module _ (rs : List Sent) where
+      abbrev shut : Entry
+      shut = record { event = ev; reply = 0; sent = rs }
+
+      said-close : (at : Option ℕ) (w : Word) (u k : ℕ) → said shut at w u k ≡ false
+      unfolding said is member any
+      said-close none w u k = refl
+      said-close (some x) w u k = rw (closing, and-false (eqb k 0)) (and-false (eqb (link-of ev) x))
+
+      leaves-close : (u i x : ℕ) → find (d .users .ids) u ≡ At i → leaves shut (some x) u ≡ (eqb p x && member u (inOrder (d .users .ids)))
+      unfolding leaves closed same code
+      leaves-close u i x q =
+          let r = find-holds (d .users .ids) u i q in
+          rw (said-close (some x) detaches u 0, closing, on, in-order-has (d .users .ids) u (rw (r .0) at (member-at (d .users .ids) i (r .1))) (r .2))
+
+    -- those on the connection leave
+    pub close-fine : fine h d ev (close d p)
+    unfolding close
+    close-fine =
+        leave-fine ev (without links (d .links) p) 0 (those-on (d .users) p (inOrder (d .users .ids))) (λ rs w q u k. said-close rs (home h u) w u k)
+        (λ rs. gone-away (shut rs) p (inOrder (d .users .ids)) (leaves-close rs))
