@@ -4,3 +4,4 @@ pub mod Offers
 pub mod Private
 pub mod Joins
 pub mod Limits
+pub mod Watched

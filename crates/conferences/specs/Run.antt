@@ -3,12 +3,9 @@ use Prim.Native.Nat.{ℕ}
 use mathlib.Core.List.{List, [], _∷_}
 use Rattle.records.specs.Records.{Sent}
 use Rattle.domain.specs.Tables.{Domain, fresh}
-use Rattle.domain.specs.Events.{Event, step}
+use Rattle.domain.specs.Events.{step}
+use Rattle.domain.specs.Claims.{Turn}
 use Rattle.conferences.specs.View.{view}
-
--- an event with the room for its answer
-abbrev pub Turn : Type 0
-Turn = Event × ℕ
 
 -- the reply, the records and the tables
 pub data Said : Type 0 where

@@ -27,6 +27,7 @@ abbrev pub seen : {A : Type 0} → Place → A → (ℕ → A) → A
 seen (At i) z f = f i
 seen Nowhere z f = z
 
+-- how one stands who holds nothing and is offered nothing
 abbrev pub nobody : Mark
 nobody = (nothing, false)
 
@@ -38,10 +39,12 @@ stand (Inhibited us) i = (if has us i then by-inhibit else nothing, false)
 stand (Giving g r) i = (if eqb g i then by-grab else nothing, eqb r i)
 stand (Given r) i = (nothing, eqb r i)
 
+-- history has each user where the table has it, and each holding to each token as the token's state says
 pub record Agrees (h : History) (us : Users) (ts : Tokens) : Type 0 where
   pub homes : (u : ℕ) → home h u ≡ seen (find (us .ids) u) none (λ i. some (link us i))
   pub marks : (k u : ℕ) → mark h k u ≡ seen (find (us .ids) u) nobody (stand (state ts k))
 
+-- an event and its outcome, as history keeps them
 abbrev pub entry : Event → Outcome → Entry
 entry ev o = record { event = ev; reply = o .reply; sent = o .sent }
 
@@ -50,6 +53,7 @@ pub record Went (h : History) (d : Domain) (ev : Event) (o : Outcome) : Type 0 w
   pub agrees : Agrees (entry ev o ∷ h) (o .domain .users) (o .domain .tokens)
   pub limits : o .domain .limits ≡ d .limits
 
+-- what a request does goes well; one that is ignored leaves nothing to show
 abbrev pub fine : History → Domain → Event → Effect Domain → Type 0
 fine h d ev ignored = Unit {0}
 fine h d ev (done e rs) = Went h d ev (record { reply = 0; domain = e; sent = rs })
@@ -66,10 +70,12 @@ module _ (h : History) (d : Domain) (a : Agrees h (d .users) (d .tokens)) (ev : 
     limits = ls;
   }
 
+  -- replies 1 to 9: nothing changes
   pub stay : (n : ℕ) → eqb n 0 ≡ false → Went h d ev (stays d n)
   unfolding all
   stay n q = quiet (stays d n) (idle-reply (entry ev (stays d n)) q) refl refl refl refl
 
+  -- records that exceed the room are reply 9, and others are sent
   pub sends-fine : (room : ℕ) (e : Domain) (rs : List Sent) → Went h d ev (record { reply = 0; domain = e; sent = rs }) → Went h d ev (sends d room 0 e rs)
   unfolding sends
   sends-fine room e rs w = go (ltb room (length (records rs)))
@@ -95,13 +101,16 @@ module _ (h : History) (d : Domain) (a : Agrees h (d .users) (d .tokens)) (ev : 
 
 -- ---- an event about one token: a record with the word sw for a user x, a request with the word aw by a user y
 
+-- what such an event makes of a mark; x and y say whether it is this user
 abbrev pub shifts : (sw aw : Word) (x y : Bool) → Mark → Mark
 shifts sw aw x y m = heard (x && same grabs sw) (x && same inhibits sw) (y && same accepts aw) (y && same declines aw) (x && same yields sw) (x && same offers sw) false m
 
+-- a word that history reads of a record
 abbrev pub read-word : Word → Type 0
 read-word w = (x : Word) → mutes x ≡ true → same w x ≡ false
 
 module _ (h : History) (us : Users) (ts : Tokens) (a : Agrees h us ts) (few : length (us .ids) ≤ 64) (e : Entry) (after : Tokens) (k₀ x y : ℕ) (sw aw : Word) (was now : Holding) where
+  -- it is enough to compare, place by place, how the state before and the state after stand
   pub token-agrees :
       state ts k₀ ≡ was
       → ((k : ℕ) → state after k ≡ (if eqb k k₀ then now else state ts k))

@@ -17,6 +17,7 @@ unfoldable pub count-to : (ℕ → Bool) → ℕ → ℕ
 count-to f zero = 0
 count-to f (suc n) = if f n then suc (count-to f n) else count-to f n
 
+-- the list of those that pass, counted
 pub count-upto : (f : ℕ → Bool) (n : ℕ) (rest : List ℕ) → length (keep f (upto n rest)) ≡ count-to f n + length (keep f rest)
 unfolding keep upto count-to
 count-upto f zero rest = sym (zero-add (length (keep f rest)))
@@ -62,6 +63,7 @@ module _ (f : ℕ → Bool) (x : ℕ) where
 abbrev pub in-use : List ℕ → ℕ → Bool
 in-use ids k = not (eqb k 0) && member k ids
 
+-- ids that stand once and are all below n: as many as places in use
 pub count-ids : (n : ℕ) (ids : List ℕ) → distinct ids ≡ true → ((k : ℕ) → member k ids ≡ true → k < n) → count-to (in-use ids) n ≡ used ids
 unfolding used keep member any
 count-ids n [] m l = count-none (in-use []) (λ k. and-false (not (eqb k 0))) n

@@ -56,6 +56,7 @@ faithful-fresh l r = record {
 
 -- ---- the claims
 
+-- one turn
 pub faithful-turned : (l : Limits) (r : Run) (t : Turn) → So (formed (t .0)) → Faithful l r → Faithful l (turned r t)
 unfolding turned now past step
 faithful-turned l r t f s =
@@ -70,6 +71,7 @@ faithful-turned l r t f s =
 pub faithful-goes : (l : Limits) (ts : List Turn) (r : Run) → So (all (λ t. formed (t .0)) ts) → Faithful l r → Faithful l (goes r ts)
 faithful-goes l ts r f s = goes-by (Faithful l) (faithful-turned l) ts r f s
 
+-- from a fresh domain
 pub faithful-run : (l : Limits) (ts : List Turn) → So (in-range l) → So (all (λ t. formed (t .0)) ts) → Faithful l (from-fresh l ts)
 unfolding from-fresh
 faithful-run l ts i f = faithful-goes l ts (run (fresh l) []) f (faithful-fresh l i)

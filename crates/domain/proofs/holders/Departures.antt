@@ -112,6 +112,7 @@ module _ (h : History) (d : Domain) (g : Sound d) (a : Agrees h (d .users) (d .t
   abbrev e : Entry
   e = record { event = ev; reply = 0; sent = rs }
 
+  -- where history hears that exactly the users at these places leave, the relation holds after they are swept
   pub left-agrees : ((w : Word) → same w detaches ≡ false → (u k : ℕ) → said e (home h u) w u k ≡ false)
       → ((u : ℕ) → leaves e (home h u) u ≡ seen (find (d .users .ids) u) false (has gone))
       → Agrees (e ∷ h) (remove-users (d .users) gone) (sweep-tokens (lose gone) (d .tokens))
@@ -197,6 +198,7 @@ module _ (h : History) (d : Domain) (g : Sound d) (a : Agrees h (d .users) (d .t
     unfolding leaves said closed is asks reading link-of same code
     leaves-detach x u = rw (and-false (eqb p x), and-true (member u ids), member-once u ids) (or-false (eqb p x && member u ids))
 
+  -- those listed who are on its connection leave
   pub detach-fine : (p n : ℕ) (ids : List ℕ) → fine h d (hears p (reads (DUrq n ids))) (detach d p n ids)
   unfolding detach
   detach-fine p n ids = go (null (those-on (d .users) p (once ids)))
@@ -224,6 +226,7 @@ module _ (h : History) (d : Domain) (g : Sound d) (a : Agrees h (d .users) (d .t
           let r = find-holds (d .users .ids) u i q in
           rw (said-close (some x) detaches u 0, closing, on, in-order-has (d .users .ids) u (rw (r .0) at (member-at (d .users .ids) i (r .1))) (r .2))
 
+    -- those on the connection leave
     pub close-fine : fine h d ev (close d p)
     unfolding close
     close-fine =

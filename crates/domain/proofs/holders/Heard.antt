@@ -20,9 +20,11 @@ flat by-grab = by-grab
 flat by-inhibit = by-inhibit
 flat by-offer = by-grab
 
+-- how a user holds a token, and whether an offer of it to the user is open
 abbrev pub Mark : Type 0
 Mark = Gain × Bool
 
+-- the mark that history gives
 unfoldable pub mark : History → ℕ → ℕ → Mark
 mark h k u = (flat (gain h k u), open-offer h k u)
 
@@ -43,6 +45,7 @@ flat-gain false false true y g = refl
 flat-gain false false false true g = refl
 flat-gain false false false false g = refl
 
+-- the mark after an entry, from the mark before it
 pub mark-step : (e : Entry) (h : History) (k u : ℕ)
     → mark (e ∷ h) k u ≡ heard (told e grabs u k) (told e inhibits u k) (said e (home h u) accepts u k) (said e (home h u) declines u k)
     (told e yields u k) (told e offers u k) (leaves e (home h u) u) (mark h k u)
@@ -53,12 +56,14 @@ mark-step e h k u =
 
 -- ---- records of which history reads nothing
 
+-- a word that changes no mark and no connection; a record with such a word
 unfoldable pub mutes : Word → Bool
 mutes w = not (same attaches w || same grabs w || same inhibits w || same yields w || same offers w)
 
 unfoldable pub mute : Sent → Bool
 mute (to p m) = mutes (reading m .word)
 
+-- such a word is none of the five that count
 pub hush : (x : Word) → mutes x ≡ true → (same attaches x ≡ false) × (same grabs x ≡ false) × (same inhibits x ≡ false) × (same yields x ≡ false) × (same offers x ≡ false)
 unfolding mutes same code
 hush attaches e = absurd (false≢true e)
@@ -73,6 +78,7 @@ hush declines e = (refl, refl, refl, refl, refl)
 hush full e = (refl, refl, refl, refl, refl)
 hush other e = (refl, refl, refl, refl, refl)
 
+-- nothing is told by such records, and nobody arrives
 pub told-none : (w : Word) → ((x : Word) → mutes x ≡ true → same w x ≡ false) → (rs : List Sent) → all mute rs ≡ true → (u k : ℕ)
     → any (λ r. elim r [ to p m ↦ is w u k (reading m) ]) rs ≡ false
 unfolding any all mute is
@@ -88,6 +94,7 @@ arrives-none (to p m ∷ rs) a u at =
     rw (hush (reading m .word) (and-parts (mutes (reading m .word)) _ a .0) .0, and-false (eqb 0 (reading m .token) && member u (reading m .users)))
     (arrives-none rs (and-parts (mutes (reading m .word)) _ a .1) u at)
 
+-- the mark after an entry with such records
 pub mark-mute : (e : Entry) (h : History) → all mute (e .sent) ≡ true → (k u : ℕ)
     → mark (e ∷ h) k u ≡ heard false false (said e (home h u) accepts u k) (said e (home h u) declines u k) false false (leaves e (home h u) u) (mark h k u)
 unfolding told
@@ -106,6 +113,7 @@ leaves-none e u = refl
 
 -- ---- an entry that asks nothing, or was not answered 0
 
+-- nobody is heard to answer or to leave
 unfoldable pub idle : Entry → Bool
 idle e = not (eqb (e .reply) 0) || same other (asks (e .event) .word)
 
@@ -139,6 +147,7 @@ module _ (e : Entry) (q : idle e ≡ true) where
       go false s = refl
 
   module _ (h : History) (a : all mute (e .sent) ≡ true) where
+    -- with such records too, nothing changes
     pub home-silent : (u : ℕ) → home (e ∷ h) u ≡ home h u
     unfolding home
     home-silent u = rw (leaves-idle (home h u) u) (arrives-none (e .sent) a u (home h u))

@@ -43,6 +43,7 @@ module _ (d : Domain) (s : Sound d) where
   abbrev t : Table 64 (d .limits .tokens) no-token (TokenRow (d .users)) (ts .ids) (ts .cells)
   t = s .tokens-are
 
+  -- no token stands twice
   pub tokens-distinct : distinct (ts .ids) ≡ true
   tokens-distinct = apart-distinct (ts .ids) (t .apart)
 
@@ -110,11 +111,13 @@ module _ (d : Domain) (s : Sound d) where
 
 -- ---- users that leave
 
+-- a place that is not among those who leave
 abbrev pub unless : ℕ → Place → Place
 unless gone (At i) = if has gone i then Nowhere else At i
 unless gone Nowhere = Nowhere
 
 module _ (d : Domain) (s : Sound d) (gone u : ℕ) where
+  -- who stays is found where it was, and on the same connection
   pub find-left : find (remove-users (d .users) gone .ids) u ≡ unless gone (find (d .users .ids) u)
   unfolding remove-users stays-on
   find-left = go (find (d .users .ids) u) refl

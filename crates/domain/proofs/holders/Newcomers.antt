@@ -123,6 +123,7 @@ module _ (h : History) (d : Domain) (g : Sound d) (a : Agrees h (d .users) (d .t
         hold k u true q = ap (mark h k) (eqb-true u new q) ∙ a .marks k new ∙ rw nowhere (sym (stand-unseated us s (first-holds (us .ids) 0 s free .0) (state (d .tokens) k) (state-held d g k)))
         hold k u false q = a .marks k u
 
+  -- the requests that fail change nothing; else the new user is attached
   pub attach-fine : fine h d ev (within (put-both d) (attach new (users-full d) (channels-full d) us (d .channels) p))
   unfolding attach users-full at-limit asks reading all mute mutes same code spare within
   attach-fine = go (users-full d) refl (channels-full d)

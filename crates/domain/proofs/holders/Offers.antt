@@ -30,6 +30,7 @@ use Rattle.domain.proofs.holders.Requests.{written, told-one, home-one}
 
 -- ---- TVrq
 
+-- who has grabbed it
 grabbed-is : (h : Holding) (i : ℕ) → grabbed-by h i ≡ true → h ≡ Grabbed i
 unfolding grabbed-by
 grabbed-is Free i e = absurd (false≢true e)
@@ -47,6 +48,7 @@ offer-places false true = refl
 offer-places false false = refl
 
 module _ (h : History) (d : Domain) (g : Sound d) (a : Agrees h (d .users) (d .tokens)) (p u k r : ℕ) (kz : 1 ≤ k) where
+  -- TVin opens the offer; a refused TVrq says nothing
   pub offer-fine : fine h d (hears p (reads (TVrq u k r))) (within (put-tokens d) (offer (d .users) (d .tokens) p u k r))
   unfolding offer asks reading all mute mutes same code stand is-free within
   offer-fine = from-fine h d a ev (put-tokens d) p u _ (λ i mine on. go i mine (grabbed-by (state (d .tokens) k) i) refl)
@@ -211,6 +213,7 @@ module _ (h : History) (d : Domain) (g : Sound d) (a : Agrees h (d .users) (d .t
     from-state (Giving x y) s = from-offer (Giving x) (from-giving x) y s (eqb y i) refl
     from-state (Given y) s = from-offer Given from-given y s (eqb y i) refl
 
+  -- the answer closes the offer, and TVcf takes the token from the giver
   pub answer-fine : fine h d ev (within (put-tokens d) (answer (d .users) (d .tokens) p n r k))
   unfolding answer
   answer-fine = from-fine h d a ev (put-tokens d) p r _ (λ i mine on. from-state i mine on (state (d .tokens) k) refl)

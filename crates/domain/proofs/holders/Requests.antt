@@ -44,6 +44,7 @@ no-gain : (b : Bool) → _≡_ {A = Gain} (if b then nothing else nothing) nothi
 no-gain true = refl
 no-gain false = refl
 
+-- TGrq
 pub grab-kept : (limit : Bool) (h : Holding) (i : ℕ) → Kept grabs h i (grab limit h i)
 unfolding grab stand same code
 grab-kept true Free i = refl
@@ -60,6 +61,7 @@ grab-kept limit (Inhibited us) i = go (eqb us (only seats i)) refl
 grab-kept limit (Giving g r) i = refl
 grab-kept limit (Given r) i = refl
 
+-- TIrq
 pub inhibit-kept : (limit : Bool) (h : Holding) (i : ℕ) → Kept inhibits h i (inhibit limit h i)
 unfolding inhibit stand same code
 inhibit-kept true Free i = refl
@@ -79,6 +81,7 @@ inhibit-kept limit (Inhibited us) i = λ j l. rw (has-with 64 i j l us) (go (has
 inhibit-kept limit (Giving g r) i = refl
 inhibit-kept limit (Given r) i = refl
 
+-- nobody stands to a token that nobody inhibits
 pub stand-inhibited : (m j : ℕ) → stand (inhibited m) j ≡ stand (Inhibited m) j
 unfolding stand inhibited
 stand-inhibited zero j = rw (has-high 0 0 j (omega arith) zero-le)
@@ -89,6 +92,7 @@ grab-gone : (i j : ℕ) (c : Bool) → shifts yields other (eqb i j) (eqb i j) (
 unfolding same code
 grab-gone i j c = rw (no-gain (eqb i j)) at (own-place yields by-grab nothing c refl (eqb i j))
 
+-- TRrq
 pub release-kept : (h : Holding) (i : ℕ) → Kept yields h i (release h i)
 unfolding release stand same code
 release-kept Free i = refl
@@ -118,6 +122,7 @@ release-kept (Given r) i = refl
 -- ---- an entry with one record
 
 module _ (ev : Event) (p : ℕ) (m : Message) (w : Word) (x k₀ : ℕ) (means : reading m ≡ sign w (x ∷ []) k₀) where
+  -- its record says w of the user x and the token k₀, and nothing else
   abbrev pub one : Entry
   one = record { event = ev; reply = 0; sent = to p m ∷ [] }
 
@@ -191,6 +196,7 @@ mute-told n w q = rw q (go (eqb n too-many-tokens))
 -- ---- the requests
 
 module _ (h : History) (d : Domain) (g : Sound d) (a : Agrees h (d .users) (d .tokens)) (p u k : ℕ) (kz : 1 ≤ k) where
+  -- the state of the token before
   abbrev was : Holding
   was = state (d .tokens) k
 

@@ -36,6 +36,7 @@ module _ {A : Type 0} (f : A → Bool) where
   all-each g law [] = refl
   all-each g law (x ∷ xs) = all-append (g x) (each g xs) (law x) (all-each g law xs)
 
+-- one message to several connections, and each connection's own ids
 pub tell-mute : (m : ℕ) (s : Message) → mutes (reading s .word) ≡ true → all mute (tell m s) ≡ true
 unfolding tell all mute
 tell-mute m s q = go (listed links m)

@@ -25,10 +25,12 @@ use Rattle.domain.proofs.invariant.Sound.{Sound}
 use Rattle.domain.proofs.holders.Agrees.{Agrees, seen}
 use Rattle.domain.proofs.holders.Claimed.{busy-state, tokens-counted}
 
+-- the result that the confirm has
 abbrev pub result : Turned → ℕ
 result (fails n) = n
 result (turns h) = 0
 
+-- too-many-tokens is said of a free token at the limit, and of no other
 pub grab-full : (limit : Bool) (h : Holding) (i : ℕ) → eqb (result (grab limit h i)) too-many-tokens ≡ (is-free h && limit)
 unfolding grab is-free
 grab-full true Free i = refl
@@ -66,6 +68,7 @@ all-sent d room e rs = go (ltb room (length (records rs)))
 
 module _ (h : History) (d : Domain) (g : Sound d) (a : Agrees h (d .users) (d .tokens)) (ev : Event) (p u k room : ℕ)
     (w : Word) (plain : same full w ≡ false) (confirm : ℕ → ℕ → ℕ → ℕ → Message) (means : (n s : ℕ) → reading (confirm n u k s) ≡ sign (if-told n w) (u ∷ []) k) where
+  -- some record says too-many-tokens of u and k
   abbrev pub tells-of : List Sent → Bool
   tells-of rs = told (record { event = ev; reply = 0; sent = rs }) full u k
 

@@ -29,7 +29,7 @@ use Rattle.domain.proofs.invariant.Sound.{Seated, UserRow, Sort, Channe
 use Rattle.domain.proofs.invariant.Seats.{kind-of}
 use Rattle.domain.proofs.invariant.Rooms.{row-of, room-left, add-owned, add-table}
 
--- ---- other users keep their seats
+-- ---- users keep their places and connections, and others may come: what is said of them stays true
 
 module _ (us us′ : Users) (keeps : (i : ℕ) → Seated us i → (getD (us′ .ids) i 0 ≡ getD (us .ids) i 0) × (getD (us′ .at) i 0 ≡ getD (us .at) i 0)) where
   pub seated-keeps : (i : ℕ) → Seated us i → Seated us′ i
@@ -71,6 +71,7 @@ module _ (us us′ : Users) (keeps : (i : ℕ) → Seated us i → (getD (us′ 
 module _ (d : Domain) (s : Sound d) where
   -- ---- a user
   module _ (new : ℕ) (lo : 1001 ≤ new) (hi : new ≤ 65535) (away : (j : ℕ) → getD (d .channels .ids) j 0 ≡ new → ⊥) (p : ℕ) (open-p : has (d .links) p ≡ true) where
+    -- below both limits
     attached-sound : users-full d ≡ false → channels-full d ≡ false → Sound (put-both d (add-user (d .users) new p, add-channel (d .channels) new (channel-of User 0)))
     unfolding add-user add-channel users-full at-limit
     attached-sound uf cf = record {
@@ -112,6 +113,7 @@ module _ (d : Domain) (s : Sound d) where
         own : (j : ℕ) × (getD (cs′ .ids) j 0 ≡ new) × (getD (cs′ .cells) j no-channel ≡ channel-of User 0)
         own = add-there (s .channels-are) (ChannelRow (d .links) (d .users)) (room-left d s new nz away cf (channel-of User 0)) (limits-le (d .limits) (s .limits-ok) .0) new (channel-of User 0) nz
 
+    -- AUrq
     pub attach-fine : Fine (within (put-both d) (attach new (users-full d) (channels-full d) (d .users) (d .channels) p))
     unfolding attach within
     attach-fine = go (users-full d) refl (channels-full d) refl

@@ -4,6 +4,7 @@ use lib.Dec.{leb·zero}
 use Rattle.domain.specs.Claims.{good-fresh}
 use Rattle.domain.proofs.Opened.{opened}
 
+-- every test computes, for any limits in range
 pub fresh-good : good-fresh
 unfolding opened
 fresh-good l h = record {

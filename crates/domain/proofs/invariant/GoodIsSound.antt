@@ -12,6 +12,7 @@ use Rattle.domain.proofs.invariant.Sound.{Sound}
 use Rattle.domain.proofs.invariant.Tests.{table-of, rows-of, free-of, distinct-apart, apart-distinct}
 use Rattle.domain.proofs.invariant.RowTests.{same-channel-is, is-same-channel, same-token-is, is-same-token, user-test, user-row, row-user, channel-test, channel-row, row-channel, token-test, token-row, row-token}
 
+-- every test passes: every rule holds
 pub good-sound : (d : Domain) → Good d → Sound d
 unfolding shaped users-sound channels-sound tokens-sound counts-sound free-blank token-of
 good-sound d g =
@@ -36,6 +37,7 @@ good-sound d g =
           (λ i x k l. token-row (d .users) i x k) (λ t. same-token-is t no-token);
     }
 
+-- and the other way
 pub sound-good : (d : Domain) → Sound d → Good d
 unfolding shaped users-sound channels-sound tokens-sound counts-sound free-blank token-of
 sound-good d s =
@@ -54,7 +56,7 @@ sound-good d s =
           (free-of t (λ k. same-token k no-token) (is-same-token no-token _ refl));
     }
 
--- the one test is the seven
+-- the one test is the seven, and the other way
 pub good-is : (d : Domain) → good d ≡ true → Good d
 unfolding good
 good-is d h = let r = simp and-eq-true-iff at h in

@@ -33,68 +33,62 @@ abbrev pub Right : Users → Bool → Holding → Turned → Type 0
 Right us full old (fails n) = Unit {0}
 Right us full old (turns h) = Held us h × (is-free old ≡ true → is-free h ≡ false → full ≡ false)
 
+-- a token that is not free is turned where a test passes
+turned-if : (us : Users) (full test : Bool) (old h : Holding) (n : ℕ) → is-free old ≡ false → Held us h → Right us full old (if test then turns h else fails n)
+turned-if us full true old h n e x = (x, λ a b. absurd (false≢true (sym e ∙ a)))
+turned-if us full false old h n e x = tt
+
+-- free where a test passes, else a state whose users are seated
+free-or : (us : Users) (test : Bool) (h : Holding) → (test ≡ false → Held us h) → Held us (if test then Free else h)
+free-or us true h f = tt
+free-or us false h f = f refl
+
+-- a set of seated users, free if it is empty
 held-inhibited : (us : Users) (m : ℕ) → Marks 64 m (Seated us) → Held us (inhibited m)
 unfolding inhibited
-held-inhibited us m x = go (eqb m 0) refl
-  where
-    go : (b : Bool) → eqb m 0 ≡ b → Held us (if b then Free else Inhibited m)
-    go true e = tt
-    go false e = let n : m ≡ 0 → ⊥ = eqb-false m 0 e in (omega arith, x)
+held-inhibited us m x = free-or us (eqb m 0) (Inhibited m) (λ e. let n : m ≡ 0 → ⊥ = eqb-false m 0 e in (omega arith, x))
 
+-- requests by the user at place i
 module _ (us : Users) (sized : length (us .ids) ≡ 64) (i : ℕ) (here : Seated us i) where
-  place-lt : i < 64
-  place-lt = seated-low us sized i here
+  low : i < 64
+  low = seated-low us sized i here
 
+  -- inhibited by that user alone
   held-only : Held us (Inhibited (only seats i))
-  held-only = (has-pos (only seats i) i (only-self 64 i place-lt), marks-only 64 i here)
+  held-only = (has-pos (only seats i) i (only-self 64 i low), marks-only 64 i here)
 
+  -- TGrq
   pub grab-right : (full : Bool) (h : Holding) → Held us h → Right us full h (grab full h i)
   unfolding grab is-free
   grab-right true Free x = tt
   grab-right false Free x = (here, λ a b. refl)
   grab-right full (Grabbed g) x = tt
-  grab-right full (Inhibited is) x = go (eqb is (only seats i))
-    where
-      go : (b : Bool) → Right us full (Inhibited is) (if b then turns (Grabbed i) else fails token-not-available)
-      go true = (here, λ a b. absurd (false≢true a))
-      go false = tt
+  grab-right full (Inhibited is) x = turned-if us full (eqb is (only seats i)) (Inhibited is) (Grabbed i) token-not-available refl here
   grab-right full (Giving g r) x = tt
   grab-right full (Given r) x = tt
 
+  -- TIrq
   pub inhibit-right : (full : Bool) (h : Holding) → Held us h → Right us full h (inhibit full h i)
   unfolding inhibit is-free
   inhibit-right true Free x = tt
   inhibit-right false Free x = (held-only, λ a b. refl)
-  inhibit-right full (Grabbed g) x = go (eqb g i)
-    where
-      go : (b : Bool) → Right us full (Grabbed g) (if b then turns (Inhibited (only seats i)) else fails token-not-available)
-      go true = (held-only, λ a b. absurd (false≢true a))
-      go false = tt
+  inhibit-right full (Grabbed g) x = turned-if us full (eqb g i) (Grabbed g) (Inhibited (only seats i)) token-not-available refl held-only
   inhibit-right full (Inhibited is) x =
-      ((has-pos (with seats is i) i (with-new 64 is i place-lt), marks-with 64 is i (x .1) here), λ a b. absurd (false≢true a))
+      turned-if us full true (Inhibited is) (Inhibited (with seats is i)) 0 refl (has-pos (with seats is i) i (with-new 64 is i low), marks-with 64 is i (x .1) here)
   inhibit-right full (Giving g r) x = tt
   inhibit-right full (Given r) x = tt
 
+  -- TRrq
   pub release-right : (full : Bool) (h : Holding) → Held us h → Right us full h (release h i)
   unfolding release is-free
   release-right full Free x = tt
-  release-right full (Grabbed g) x = go (eqb g i)
-    where
-      go : (b : Bool) → Right us full (Grabbed g) (if b then turns Free else fails token-not-possessed)
-      go true = (tt, λ a b. absurd (false≢true a))
-      go false = tt
-  release-right full (Inhibited is) x = go (has is i)
-    where
-      go : (b : Bool) → Right us full (Inhibited is) (if b then turns (inhibited (without seats is i)) else fails token-not-possessed)
-      go true = (held-inhibited us _ (marks-without 64 is i (λ q h n. x .1 .are q h)), λ a b. absurd (false≢true a))
-      go false = tt
-  release-right full (Giving g r) x = go (eqb g i)
-    where
-      go : (b : Bool) → Right us full (Giving g r) (if b then turns (Given r) else fails token-not-possessed)
-      go true = (x .1, λ a b. absurd (false≢true a))
-      go false = tt
+  release-right full (Grabbed g) x = turned-if us full (eqb g i) (Grabbed g) Free token-not-possessed refl tt
+  release-right full (Inhibited is) x =
+      turned-if us full (has is i) (Inhibited is) (inhibited (without seats is i)) token-not-possessed refl (held-inhibited us _ (marks-without 64 is i (λ q h n. x .1 .are q h)))
+  release-right full (Giving g r) x = turned-if us full (eqb g i) (Giving g r) (Given r) token-not-possessed refl (x .1)
   release-right full (Given r) x = tt
 
+  -- TVrs
   pub answered-held : (b : Bool) (h : Holding) → Held us h → Held us (answered b h i)
   unfolding answered
   answered-held true h x = here
@@ -104,46 +98,30 @@ module _ (us : Users) (sized : length (us .ids) ≡ 64) (i : ℕ) (here : Seated
   answered-held false (Giving g r) x = x .0
   answered-held false (Given r) x = tt
 
-pub offered-busy : (h : Holding) (i : ℕ) → offered-to h i ≡ true → is-free h ≡ false
-unfolding offered-to is-free
-offered-busy Free i e = absurd (false≢true e)
-offered-busy (Grabbed g) i e = refl
-offered-busy (Inhibited is) i e = refl
-offered-busy (Giving g r) i e = refl
-offered-busy (Given r) i e = refl
-
-pub grabbed-busy : (h : Holding) (i : ℕ) → grabbed-by h i ≡ true → is-free h ≡ false
-unfolding grabbed-by is-free
-grabbed-busy Free i e = absurd (false≢true e)
-grabbed-busy (Grabbed g) i e = refl
-grabbed-busy (Inhibited is) i e = refl
-grabbed-busy (Giving g r) i e = refl
-grabbed-busy (Given r) i e = refl
+-- a token that passes a test which a free one does not is not free
+pub busy-by : (f : (Holding → Bool)) → f Free ≡ false → (h : Holding) → f h ≡ true → is-free h ≡ false
+unfolding is-free
+busy-by f z Free e = absurd (false≢true (sym z ∙ e))
+busy-by f z (Grabbed g) e = refl
+busy-by f z (Inhibited is) e = refl
+busy-by f z (Giving g r) e = refl
+busy-by f z (Given r) e = refl
 
 -- leavers, where those who do not leave keep their seats
 pub lose-held : (us us′ : Users) (gone : ℕ) → ((i : ℕ) → Seated us i → has gone i ≡ false → Seated us′ i)
     → (h : Holding) → Held us h → Held us′ (lose gone h)
 unfolding lose lose-offer
 lose-held us us′ gone k Free x = tt
-lose-held us us′ gone k (Grabbed g) x = go (has gone g) refl
-  where
-    go : (b : Bool) → has gone g ≡ b → Held us′ (if b then Free else Grabbed g)
-    go true e = tt
-    go false e = k g x e
+lose-held us us′ gone k (Grabbed g) x = free-or us′ (has gone g) (Grabbed g) (k g x)
 lose-held us us′ gone k (Inhibited is) x = held-inhibited us′ _ (marks-minus 64 is gone (λ q h n. k q (x .1 .are q h) n))
 lose-held us us′ gone k (Giving g r) x = go (has gone g) refl (has gone r) refl
   where
-    go : (a : Bool) → has gone g ≡ a → (b : Bool) → has gone r ≡ b
-        → Held us′ (lose-offer a b g r)
+    go : (a : Bool) → has gone g ≡ a → (b : Bool) → has gone r ≡ b → Held us′ (lose-offer a b g r)
     go true e true f = tt
     go true e false f = k r (x .1) f
     go false e true f = k g (x .0) e
     go false e false f = (k g (x .0) e, k r (x .1) f)
-lose-held us us′ gone k (Given r) x = go (has gone r) refl
-  where
-    go : (b : Bool) → has gone r ≡ b → Held us′ (if b then Free else Given r)
-    go true e = tt
-    go false e = k r x e
+lose-held us us′ gone k (Given r) x = free-or us′ (has gone r) (Given r) (k r x)
 
 -- ---- the table
 
@@ -158,6 +136,7 @@ module _ (d : Domain) (s : Sound d) where
   pub with-tokens : (ts : Tokens) → Table 64 (d .limits .tokens) no-token (TokenRow (d .users)) (ts .ids) (ts .cells) → Sound (put-tokens d ts)
   with-tokens ts t = record { limits-ok = s .limits-ok; links-fit = s .links-fit; users-are = s .users-are; channels-are = s .channels-are; tokens-are = t }
 
+  -- the users of a token's state are seated
   pub state-held : (k : ℕ) → Held (d .users) (state (d .tokens) k)
   unfolding state load hold
   state-held k = go (find (d .tokens .ids) k) refl
@@ -166,6 +145,7 @@ module _ (d : Domain) (s : Sound d) where
       go (At j) e = let r = find-holds (d .tokens .ids) k j e in s .tokens-are .rows j (rw (r .0) (r .2)) .held
       go Nowhere e = tt
 
+  -- a token with a new state: its users are seated, and a free token is taken only below the limit
   pub token-set : (k : ℕ) (h : Holding) → 1 ≤ k → k ≤ 65535 → Held (d .users) h → (is-free (state (d .tokens) k) ≡ true → is-free h ≡ false → tokens-full d ≡ false)
       → Sound (put-tokens d (set-token (d .tokens) k h))
   unfolding set-token seat store found state load is-free hold tokens-full at-limit
@@ -206,6 +186,7 @@ module _ (d : Domain) (s : Sound d) where
   -- ---- the requests
 
   module _ (k : ℕ) (lo : 1 ≤ k) (hi : k ≤ 65535) where
+    -- a turn that is right
     turn-fine : (p u i : ℕ) (confirm : ℕ → ℕ → ℕ → ℕ → Message) (t : Turned) → Right (d .users) (tokens-full d) (state (d .tokens) k) t
         → Fine (within (put-tokens d) (turn (d .tokens) p u i k confirm t))
     unfolding turn within
@@ -213,11 +194,12 @@ module _ (d : Domain) (s : Sound d) where
     turn-fine p u i confirm (turns h) r = token-set k h lo hi (r .0) (r .1)
 
     module _ (p u : ℕ) where
-      -- TGrq, TIrq and TRrq: the turn is right
+      -- asked by an attached user
       asked-fine : (confirm : ℕ → ℕ → ℕ → ℕ → Message) (t : ℕ → Turned) → ((i : ℕ) → Seated (d .users) i → Right (d .users) (tokens-full d) (state (d .tokens) k) (t i))
           → Fine (within (put-tokens d) (from (d .users) p u λ i. turn (d .tokens) p u i k confirm (t i)))
       asked-fine confirm t f = from-fine (put-tokens d) d s p u _ (λ i w. turn-fine p u i confirm (t i) (f i (w .seated)))
 
+      -- TGrq, TIrq, TRrq, TVrq, TVrs
       pub grab-fine : Fine (within (put-tokens d) (take-token (tokens-full d) (d .users) (d .tokens) p u k))
       unfolding take-token
       grab-fine = asked-fine TGcf _ (λ i h. grab-right (d .users) (s .users-are .ids-size) i h (tokens-full d) (state (d .tokens) k) (state-held k))
@@ -231,7 +213,7 @@ module _ (d : Domain) (s : Sound d) where
       release-fine = asked-fine TRcf _ (λ i h. release-right (d .users) (s .users-are .ids-size) i h (tokens-full d) (state (d .tokens) k) (state-held k))
 
       pub offer-fine : (r : ℕ) → Fine (within (put-tokens d) (offer (d .users) (d .tokens) p u k r))
-      unfolding offer is-free within
+      unfolding offer grabbed-by is-free within
       offer-fine r = from-fine (put-tokens d) d s p u _ (λ i w. grabbed i w (grabbed-by (state (d .tokens) k) i) refl)
         where
           chosen : ℕ → Place → Effect Tokens
@@ -244,7 +226,7 @@ module _ (d : Domain) (s : Sound d) where
               → Fine (within (put-tokens d) (chosen i w))
           to-whom i w b (At j) e =
               let v = find-holds (d .users .ids) r j e in
-              token-set k (Giving i j) lo hi (w .seated, rw (v .0) (v .2)) (λ z y. absurd (false≢true (sym (grabbed-busy (state (d .tokens) k) i b) ∙ z)))
+              token-set k (Giving i j) lo hi (w .seated, rw (v .0) (v .2)) (λ z y. absurd (false≢true (sym (busy-by (λ h. grabbed-by h i) refl (state (d .tokens) k) b) ∙ z)))
           to-whom i w b Nowhere e = s
 
           grabbed : (i : ℕ) → Sits (d .users) p u i → (b : Bool) → grabbed-by (state (d .tokens) k) i ≡ b
@@ -254,7 +236,7 @@ module _ (d : Domain) (s : Sound d) where
           grabbed i w false b = s
 
       pub answer-fine : (n : ℕ) → Fine (within (put-tokens d) (answer (d .users) (d .tokens) p n u k))
-      unfolding answer within
+      unfolding answer offered-to within
       answer-fine n = from-fine (put-tokens d) d s p u _ (λ i w. offered i w (offered-to (state (d .tokens) k) i) refl)
         where
           offered : (i : ℕ) → Sits (d .users) p u i → (b : Bool) → offered-to (state (d .tokens) k) i ≡ b
@@ -262,5 +244,5 @@ module _ (d : Domain) (s : Sound d) where
               (informed (d .users) n k (state (d .tokens) k) (answered (eqb n successful) (state (d .tokens) k) i)) else ignored))
           offered i w true b =
               token-set k _ lo hi (answered-held (d .users) (s .users-are .ids-size) i (w .seated) (eqb n successful) (state (d .tokens) k) (state-held k))
-              (λ z y. absurd (false≢true (sym (offered-busy (state (d .tokens) k) i b) ∙ z)))
+              (λ z y. absurd (false≢true (sym (busy-by (λ h. offered-to h i) refl (state (d .tokens) k) b) ∙ z)))
           offered i w false b = tt

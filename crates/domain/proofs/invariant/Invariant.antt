@@ -23,6 +23,7 @@ use Rattle.domain.proofs.invariant.Kept.{sound-step}
 use Rattle.domain.proofs.invariant.Fresh.{fresh-good}
 use Rattle.domain.proofs.invariant.GoodIsSound.{good-sound, sound-good}
 
+-- one event, for any free new id from 1001
 pub step-good : good-step
 step-good d new e room g f h =
     let r = and-parts (between 1001 65535 new) (not (found (find (d .channels .ids) new))) h in
@@ -32,6 +33,7 @@ step-good d new e room g f h =
 -- ---- the id that is granted
 
 module _ (d : Domain) (g : Good d) where
+  -- it is free, and from 1001
   pub grant-free : So (between 1001 65535 (grant (d .channels)) && not (found (find (d .channels .ids) (grant (d .channels)))))
   unfolding grant above
   grant-free =
@@ -40,6 +42,7 @@ module _ (d : Domain) (g : Good d) where
       let r = unused-free 128 (d .channels .ids) 1000 (omega arith) in
       and-both (is-between 1001 65535 _ (r .1) (omega (arith, r .2))) (rw (r .0))
 
+  -- one event, for that id
   pub good-next : (e : Event) (room : ℕ) → So (formed e) → Good (step d e room .domain)
   unfolding step
   good-next e room f = step-good d (grant (d .channels)) e room g f grant-free

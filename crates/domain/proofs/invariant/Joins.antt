@@ -28,8 +28,9 @@ use Rattle.domain.specs.Events.{channels-full}
 use Rattle.domain.proofs.invariant.Sound.{Seated, Host, Owned, Sort, ChannelRow, Sound, Fine}
 use Rattle.domain.proofs.invariant.Seats.{kind-of, with-marks-of, seated-low}
 use Rattle.domain.proofs.invariant.From.{Sits, from-fine}
-use Rattle.domain.proofs.invariant.Rooms.{in-hosts, guests-changed, with-channels, set-sound, end-sound, made-sound, sweep-owned, sweep-table, marked-user, marked-row}
+use Rattle.domain.proofs.invariant.Rooms.{Open, in-hosts, guests-changed, with-channels, set-sound, end-sound, made-sound, sweep-owned, sweep-table, marked-user, marked-row}
 
+-- what is found is an id
 pub found-pos : (ids : List ℕ) (x : ℕ) → found (find ids x) ≡ true → 0 < x
 unfolding find found
 found-pos ids x h = go (eqb x 0) refl h
@@ -41,12 +42,15 @@ found-pos ids x h = go (eqb x 0) refl h
 -- ---- joining
 
 module _ (us : Users) (sized : length (us .ids) ≡ 64) (apart : Apart (us .ids)) (p u i : ℕ) (w : Sits us p u i) (pl : p < 16) where
+  -- p is joined, so somebody is
   one-more : (m : ℕ) → 0 < with links m p
   one-more m = has-pos (with links m p) p (with-new 16 m p pl)
 
+  -- a member at place i is on p
   host-here : (who : ℕ) → has who i ≡ true → Host us who p
   host-here who h = record { place = i; in-mask = h; there = w .on }
 
+  -- who may join leaves the rules of the channel's kind
   pub join-sort : (c : ℕ) (k : Kind) (m : ℕ) → Sort us c k m → may k c u i ≡ 0 → Sort us c k (with links m p)
   unfolding may
   join-sort c Static m x e = (x .0, x .1, one-more m)
@@ -78,11 +82,12 @@ module _ (us : Users) (sized : length (us .ids) ≡ 64) (apart : Apart (us .ids)
 
 module _ (new : ℕ) (d : Domain) (s : Sound d) (lo : 1001 ≤ new) (hi : new ≤ 65535) (away : (j : ℕ) → getD (d .channels .ids) j 0 ≡ new → ⊥)
     (p : ℕ) (pl : p < 16) (open-p : has (d .links) p ≡ true) where
+  -- CJrq for a channel not in use
   join-new-fine : (u c : ℕ) → find (d .channels .ids) c ≡ Nowhere → Fine (within (put-channels d) (join-new new (channels-full d) (d .channels) p u c))
   unfolding join-new within
   join-new-fine u c none-c = go (ltb 1000 c) refl (channels-full d) refl (eqb c 0) refl
     where
-      here : Marks 16 (only links p) (λ q. has (d .links) q ≡ true)
+      here : Open (d .links) (only links p)
       here = marks-only 16 p open-p
 
       some-one : 0 < only links p
@@ -101,6 +106,7 @@ module _ (new : ℕ) (d : Domain) (s : Sound d) (lo : 1001 ≤ new) (hi : new �
           let pos : 0 < c = omega arith in
           made-sound d s c pos (find-none (d .channels .ids) c none-c pos) f Static (only links p) here (pos, ltb-false 1000 c e, some-one)
 
+  -- CJrq for a channel in use
   join-at-fine : (u c i j : ℕ) → Sits (d .users) p u i → find (d .channels .ids) c ≡ At j
       → (n : ℕ) → may (kind (channel (d .channels) j)) c u i ≡ n → Fine (within (put-channels d) (join-at (d .channels) p u c j n))
   unfolding join-at channel within
@@ -116,6 +122,7 @@ module _ (new : ℕ) (d : Domain) (s : Sound d) (lo : 1001 ≤ new) (hi : new �
       (λ y. y)
   join-at-fine u c i j w e (suc n) f = s
 
+  -- CJrq
   pub join-fine : (u c : ℕ) → Fine (within (put-channels d) (join new (channels-full d) (d .users) (d .channels) p u c))
   unfolding join
   join-fine u c = from-fine (put-channels d) d s p u _ (λ i w. go i w (find (d .channels .ids) c) refl)
@@ -128,6 +135,7 @@ module _ (new : ℕ) (d : Domain) (s : Sound d) (lo : 1001 ≤ new) (hi : new �
       go i w (At j) e = join-at-fine u c i j w e _ refl
       go i w Nowhere e = join-new-fine u c e
 
+  -- CCrq
   pub convene-fine : (u : ℕ) → Fine (within (put-channels d) (convene new (channels-full d) (d .users) (d .channels) p u))
   unfolding convene within
   convene-fine u = from-fine (put-channels d) d s p u _ (λ i w. go i w (channels-full d) refl)
@@ -141,6 +149,7 @@ module _ (new : ℕ) (d : Domain) (s : Sound d) (lo : 1001 ≤ new) (hi : new �
 -- ---- leaving channels
 
 module _ (d : Domain) (s : Sound d) (p : ℕ) where
+  -- CLrq
   pub leave-channels-fine : (cs : List ℕ) → Fine (within (put-channels d) (leave-channels (d .channels) p cs))
   unfolding leave-channels left within
   leave-channels-fine cs = go (any (joined (d .channels) p) cs)
@@ -187,10 +196,11 @@ places-seated us ids = record { fits = those-lt 64 _; are = λ i h. there i (in-
 record Private-at (d : Domain) (j m adm : ℕ) : Type 0 where
   used : 0 < getD (d .channels .ids) j 0
   stored : channel (d .channels) j ≡ channel-of (Private m adm) (channel (d .channels) j .marks)
-  joins : Marks 16 (channel (d .channels) j .marks) (λ q. has (d .links) q ≡ true)
+  joins : Open (d .links) (channel (d .channels) j .marks)
   sort : Sort (d .users) (getD (d .channels .ids) j 0) (Private m adm) (channel (d .channels) j .marks)
 
 module _ (d : Domain) (s : Sound d) (p u c : ℕ) where
+  -- a request by the manager
   manages-fine : (act : ℕ → ℕ → ℕ → Effect Channels) → ((j m adm : ℕ) → Private-at d j m adm → Fine (within (put-channels d) (act j m adm)))
       → Fine (within (put-channels d) (manages (d .users) (d .channels) p u c act))
   unfolding manages channel owned within
@@ -220,15 +230,18 @@ module _ (d : Domain) (s : Sound d) (p u c : ℕ) where
           its i j h (kind (channel (d .channels) j)) refl (s .channels-are .rows j h .sort)
       go i Nowhere e = tt
 
+  -- it is no user's channel
   no-user : {j m adm : ℕ} → Private-at d j m adm → kind (channel (d .channels) j) ≡ User → ⊥
   no-user {m} {adm} x f =
       let e : Private m adm ≡ User = sym (kind-of (Private m adm) _) ∙ sym (ap kind (x .stored)) ∙ f in
       let z : _≡_ {A = ℕ} 0 1 = cc in omega (arith, z)
 
+  -- CDrq
   pub disband-fine : Fine (within (put-channels d) (disband (d .users) (d .channels) p u c))
   unfolding disband channel within
   disband-fine = manages-fine _ (λ j m adm x. end-sound d s j (x .used) (no-user x))
 
+  -- CArq
   pub admit-fine : (ids : List ℕ) → Fine (within (put-channels d) (admit (d .users) (d .channels) p u c ids))
   unfolding admit attached-of channel within
   admit-fine ids = manages-fine _ (λ j m adm x. go j m adm x (null (attached-of (d .users) ids)))
@@ -249,6 +262,7 @@ module _ (d : Domain) (s : Sound d) (p u c : ℕ) where
       )
           (λ e. absurd (no-user x e))
 
+  -- CErq
   pub expel-fine : (ids : List ℕ) → Fine (within (put-channels d) (expel (d .users) (d .channels) p u c ids))
   unfolding expel channel private within
   expel-fine ids = manages-fine _ (λ j m adm x. go j m adm x (null (admitted-of (d .users) adm ids)))

@@ -26,6 +26,7 @@ use Rattle.domain.proofs.invariant.Arrives.{attach-fine, open-sound}
 use Rattle.domain.proofs.invariant.Leavers.{detach-fine, close-fine}
 
 module _ (d : Domain) (s : Sound d) where
+  -- records that exceed the room leave the tables as they were
   sends-sound : (room n : ℕ) (e : Domain) (rs : List Sent) → Sound e → Sound (sends d room n e rs .domain)
   unfolding sends
   sends-sound room n e rs x = go (ltb room (length (records rs)))
@@ -34,6 +35,7 @@ module _ (d : Domain) (s : Sound d) where
       go true = s
       go false = x
 
+  -- an effect that leaves them sound
   ends-sound : (room : ℕ) (x : Effect Domain) → Fine x → Sound (ends d room x .domain)
   unfolding ends
   ends-sound room ignored f = s
@@ -41,6 +43,7 @@ module _ (d : Domain) (s : Sound d) where
 
   module _ (new : ℕ) (lo : 1001 ≤ new) (hi : new ≤ 65535) (away : (j : ℕ) → getD (d .channels .ids) j 0 ≡ new → ⊥) where
     module _ (p : ℕ) (pl : p < 16) (open-p : has (d .links) p ≡ true) where
+      -- the request of a message whose fields are in range
       act-fine : (m : Message) → Ranges m → Fine (act new d p m)
       unfolding act within please test
       act-fine (EDrq h i) f = s
@@ -76,11 +79,13 @@ module _ (d : Domain) (s : Sound d) where
       act-fine (TPin u k) f = tt
       act-fine (TTcf u k st) f = tt
 
+      -- a message, or octets that are none
       answers-sound : (m : Reading) (room : ℕ) → formed (hears p m) ≡ true → Sound (answers new d p m room .domain)
       unfolding answers formed
       answers-sound (reads m) room f = ends-sound room (act new d p m) (act-fine m (ranges m f))
       answers-sound (refuses n octets) room f = sends-sound room n d (complaint n p octets) s
 
+    -- one event
     pub sound-step : (e : Event) (room : ℕ) → formed e ≡ true → Sound (step-with new d e room .domain)
     unfolding step-with
     sound-step (opens p) room f = go (ltb 15 p) (has (d .links) p)

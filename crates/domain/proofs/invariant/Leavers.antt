@@ -44,6 +44,7 @@ fate-user us gone live u i ch e f g =
 
 module _ (us us′ : Users) (sized : length (us .at) ≡ 64) (apart : Apart (us .ids)) (gone live : ℕ)
     (keeps : (i : ℕ) → Seated us i → has gone i ≡ false → (getD (us′ .ids) i 0 ≡ getD (us .ids) i 0) × (getD (us′ .at) i 0 ≡ getD (us .at) i 0)) where
+  -- who stays is seated
   seated-then : (i : ℕ) → Seated us i → has gone i ≡ false → Seated us′ i
   seated-then i h g = rw (keeps i h g .0) h
 
@@ -184,6 +185,7 @@ module _ (d : Domain) (s : Sound d) where
       inside : i < length (d .users .ids)
       inside = in-list (d .users .ids) i h
 
+  -- DPum, RJum, loss
   pub close-fine : (p : ℕ) → Fine (close d p)
   unfolding close leave without
   close-fine p = left-sound (places (d .users) (those-on (d .users) p (inOrder (d .users .ids)))) (without links (d .links) p) (those-lt 16 _)

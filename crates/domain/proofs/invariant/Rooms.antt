@@ -33,8 +33,12 @@ in-hosts us who q l h =
     record { place = i; in-mask = r .0; there = getD-any (us .at) i 0 16 (rw l b) ∙ eqb-true (link us i) q (r .1) })
     (λ e. absurd (false≢true e))
 
+-- all connections of the mask are open
+abbrev pub Open : ℕ → ℕ → Type 0
+Open live m = Marks 16 m (λ q. has live q ≡ true)
+
 -- the row of a channel as it is stored
-pub row-of : (live : ℕ) (us : Users) (j c : ℕ) (k : Kind) (m : ℕ) → Marks 16 m (λ q. has live q ≡ true) → Sort us c k m → ChannelRow live us j c (channel-of k m)
+pub row-of : (live : ℕ) (us : Users) (j c : ℕ) (k : Kind) (m : ℕ) → Open live m → Sort us c k m → ChannelRow live us j c (channel-of k m)
 row-of live us j c k m a x = record {
   plain = sym (ap (λ (x : Kind). channel-of x (channel-of k m .marks)) (kind-of k m) ∙ ap (channel-of k) (marks-of k m));
   joins = rw (marks-of k m) a;
@@ -46,6 +50,7 @@ pub guests-changed : (ch : Channel) (g us m : ℕ) → ch ≡ channel-of (Privat
 guests-changed ch g us m e vs n = ap (λ (y : Channel). with-guests y vs n) e ∙ with-guests-of g us m vs n
 
 module _ (d : Domain) (s : Sound d) where
+  -- the id and the cell at a place, and the rule of the table's rows
   abbrev cid : ℕ → ℕ
   cid j = getD (d .channels .ids) j 0
 
@@ -55,6 +60,7 @@ module _ (d : Domain) (s : Sound d) where
   abbrev Row : ℕ → ℕ → Channel → Type 0
   Row = ChannelRow (d .links) (d .users)
 
+  -- the tables with other channels, where users keep theirs
   pub with-channels : (cs : Channels) → ((u : ℕ) → 0 < u → Owned (d .channels) u → Owned cs u)
       → Table 128 (d .limits .channels) no-channel Row (cs .ids) (cs .cells) → Sound (put-channels d cs)
   with-channels cs f t = record {
@@ -66,7 +72,7 @@ module _ (d : Domain) (s : Sound d) where
   }
 
   -- a channel changed: a user's stays a user's
-  pub set-sound : (j : ℕ) → 0 < cid j → (ch : Channel) (k : Kind) (m : ℕ) → ch ≡ channel-of k m → Marks 16 m (λ q. has (d .links) q ≡ true) → Sort (d .users) (cid j) k m
+  pub set-sound : (j : ℕ) → 0 < cid j → (ch : Channel) (k : Kind) (m : ℕ) → ch ≡ channel-of k m → Open (d .links) m → Sort (d .users) (cid j) k m
       → (kind (cell j) ≡ User → k ≡ User) → Sound (put-channels d (set-channel (d .channels) j ch))
   unfolding set-channel
   set-sound j h ch k m p a x u = with-channels (set-channel (d .channels) j ch)
@@ -101,22 +107,26 @@ module _ (d : Domain) (s : Sound d) where
 
   -- a new channel
   module _ (c : ℕ) (cz : 0 < c) (away : (j : ℕ) → cid j ≡ c → ⊥) (few : channels-full d ≡ false) (ch : Channel) where
+    -- the limit is not reached
     pub room-left : used (d .channels .ids) < d .limits .channels
     unfolding channels-full at-limit
     room-left = leb-false _ _ few
 
+    -- users keep their channels
     pub add-owned : (u : ℕ) → 0 < u → Owned (d .channels) u → Owned (add-channel (d .channels) c ch) u
     unfolding add-channel
     add-owned u uz o =
         let r = add-keeps (s .channels-are) Row room-left (limits-le (d .limits) (s .limits-ok) .0) c ch cz (o .spot) (rw (o .id-is) uz) in
         record { spot = o .spot; id-is = r .0 ∙ o .id-is; kind-is = ap kind (r .1) ∙ o .kind-is }
 
+    -- by any rule that the new channel meets and the others keep
     pub add-table : (Q : ℕ → ℕ → Channel → Type 0) → ((j : ℕ) → Q j c ch) → ((j : ℕ) → 0 < cid j → Row j (cid j) (cell j) → Q j (cid j) (cell j))
         → Table 128 (d .limits .channels) no-channel Q (add-channel (d .channels) c ch .ids) (add-channel (d .channels) c ch .cells)
     unfolding add-channel
     add-table Q q f = table-add (s .channels-are) Q room-left (limits-le (d .limits) (s .limits-ok) .0) c ch cz away q f
 
-  pub made-sound : (c : ℕ) → 0 < c → ((j : ℕ) → cid j ≡ c → ⊥) → channels-full d ≡ false → (k : Kind) (m : ℕ) → Marks 16 m (λ q. has (d .links) q ≡ true) → Sort (d .users) c k m
+  -- a channel made as it is stored
+  pub made-sound : (c : ℕ) → 0 < c → ((j : ℕ) → cid j ≡ c → ⊥) → channels-full d ≡ false → (k : Kind) (m : ℕ) → Open (d .links) m → Sort (d .users) c k m
       → Sound (put-channels d (add-channel (d .channels) c (channel-of k m)))
   made-sound c cz away few k m a x = with-channels (add-channel (d .channels) c (channel-of k m)) (add-owned c cz away few (channel-of k m))
       (add-table c cz away few (channel-of k m) Row (λ j. row-of (d .links) (d .users) j c k m a x) (λ j l y. y))
@@ -124,12 +134,14 @@ module _ (d : Domain) (s : Sound d) where
 -- all channels at once, by a rule for those that stay
 module _ (cs : Channels) {lim : ℕ} {P : ℕ → ℕ → Channel → Type 0} (t : Table 128 lim no-channel P (cs .ids) (cs .cells)) (Q : ℕ → ℕ → Channel → Type 0)
     (fate : ℕ → Channel → Option Channel) where
+  -- a user's channel that stays is a user's
   pub sweep-owned : (u : ℕ) → 0 < u → (o : Owned cs u) → (ch : Channel) → fate u (getD (cs .cells) (o .spot) no-channel) ≡ some ch → kind ch ≡ User → Owned (sweep-channels fate cs) u
   unfolding sweep-channels turns-to
   sweep-owned u uz o ch e k =
       let r = sweep-used t Q (λ j c x. fate c x) (o .spot) (rw (o .id-is) uz) (some ch) (rw (o .id-is) e) in
       record { spot = o .spot; id-is = r .0 ∙ o .id-is; kind-is = ap kind (r .1) ∙ k }
 
+  -- by any rule that those which stay meet
   pub sweep-table : ((j : ℕ) → 0 < getD (cs .ids) j 0 → P j (getD (cs .ids) j 0) (getD (cs .cells) j no-channel)
       → (ch : Channel) → fate (getD (cs .ids) j 0) (getD (cs .cells) j no-channel) ≡ some ch → Q j (getD (cs .ids) j 0) ch)
       → Table 128 lim no-channel Q (sweep-channels fate cs .ids) (sweep-channels fate cs .cells)
@@ -143,6 +155,7 @@ pub marked-user : (ch : Channel) (m : ℕ) → kind ch ≡ User → (marked ch m
 unfolding marked lapses kind with-marks
 marked-user ch m e = (rw e refl, e)
 
+-- of a channel as it is stored
 marked-of : (k : Kind) (m n : ℕ) → marked (channel-of k m) n ≡ (if lapses k && eqb n 0 then none else some (channel-of k n))
 unfolding marked lapses kind channel-of with-marks
 marked-of Static m n = refl
@@ -150,10 +163,12 @@ marked-of User m n = refl
 marked-of (Private g adm) m n = refl
 marked-of Assigned m n = refl
 
-module _ (live : ℕ) (us : Users) (j c : ℕ) (m n : ℕ) (open-n : Marks 16 n (λ q. has live q ≡ true)) (less : (q : ℕ) → has n q ≡ true → has m q ≡ true) where
+module _ (live : ℕ) (us : Users) (j c : ℕ) (m n : ℕ) (open-n : Open live n) (less : (q : ℕ) → has n q ≡ true → has m q ≡ true) where
+  -- what all marks have, fewer have
   fewer : {N : ℕ → Type 0} → Marks 16 m N → Marks 16 n N
   fewer x = record { fits = open-n .fits; are = λ q h. x .are q (less q h) }
 
+  -- the rules of its kind hold, where it does not end
   fewer-sort : (k : Kind) → Sort us c k m → (lapses k && eqb n 0) ≡ false → Sort us c k n
   unfolding lapses
   fewer-sort Static x e = let z : n ≡ 0 → ⊥ = eqb-false n 0 e in (x .0, x .1, omega arith)

@@ -28,9 +28,11 @@ use Rattle.domain.proofs.invariant.Rooms.{in-hosts}
 
 -- ---- the numbers of a place
 
+-- a number is itself
 self : (n : ℕ) → eqb n n ≡ true
 self n = eq-eqb n n refl
 
+-- the same numbers are the same channel, and the other way
 pub same-channel-is : (a b : Channel) → same-channel a b ≡ true → a ≡ b
 unfolding same-channel
 same-channel-is a b h =
@@ -46,6 +48,7 @@ pub is-same-channel : (a b : Channel) → a ≡ b → same-channel a b ≡ true
 unfolding same-channel
 is-same-channel a b e = rw e (simp self)
 
+-- the same numbers are the same token, and the other way
 pub same-token-is : (a b : Token) → same-token a b ≡ true → a ≡ b
 unfolding same-token
 same-token-is a b h = let r = simp and-eq-true-iff at h in λ i. record { mode = eqb-true (a .mode) (b .mode) (r .0) i; value = eqb-true (a .value) (b .value) (r .1) i }
@@ -60,6 +63,7 @@ ranged a b c t h = let r = and-parts (between a b c) t h in let q = between-is a
 
 -- ---- masks
 
+-- a mask with nothing but what n has, and the other way
 inside-is : (m n : ℕ) → inside m n ≡ true → Marks 16 m (λ q. has n q ≡ true)
 unfolding inside meet
 inside-is m n h = let e : meet links m n ≡ m = eqb-true (meet links m n) m h in
@@ -74,6 +78,7 @@ is-inside m n x = eq-eqb (meet links m n) m (mask-ext 16 _ m (those-lt 16 _) (x 
     go q false e = refl
 
 module _ (us : Users) where
+  -- a user at a place, and the other way
   seated-is : (i : ℕ) → seated us i ≡ true → Seated us i
   unfolding seated name
   seated-is i h = ltb-true 0 _ h
@@ -82,6 +87,7 @@ module _ (us : Users) where
   unfolding seated name
   is-seated i h = lt-ltb 0 _ h
 
+  -- a user at each place of a mask, and the other way
   all-seated-is : (m : ℕ) → all-seated us m ≡ true → Marks 64 m (Seated us)
   unfolding all-seated all
   all-seated-is m h =
@@ -99,6 +105,7 @@ module _ (us : Users) where
 
   -- ---- one token
 
+  -- a token in use with its users seated, and the other way
   held-is : (h : Holding) → token-sound us h ≡ true → (is-free h ≡ false) × Held us h
   unfolding token-sound is-free
   held-is Free e = absurd (false≢true e)
@@ -115,9 +122,11 @@ module _ (us : Users) where
   is-held (Giving g r) e x = and-both (is-seated g (x .0)) (is-seated r (x .1))
   is-held (Given r) e x = is-seated r x
 
+  -- what `Good` asks of a token's place
   abbrev pub token-test : ℕ → Token → Bool
   token-test k t = leb k 65535 && same-token t (token-of (hold t)) && token-sound us (hold t)
 
+  -- it gives the rule, and the other way
   pub token-row : (i k : ℕ) (t : Token) → token-test k t ≡ true → TokenRow us i k t
   token-row i k t h =
       let r = simp and-eq-true-iff at h in
@@ -129,10 +138,12 @@ module _ (us : Users) where
 
   -- ---- one channel
 
+  -- what `Good` asks of a channel's place
   abbrev pub channel-test : ℕ → ℕ → Channel → Bool
   channel-test live c ch = same-channel ch (channel-of (kind ch) (ch .marks)) && inside (ch .marks) live && channel-sound us c (kind ch) (ch .marks)
 
   module _ (live : ℕ) (sized : length (us .ids) ≡ 64) (sized′ : length (us .at) ≡ 64) (apart : Apart (us .ids)) where
+    -- the connection of a user of a mask is among its hosts
     host-in : (who q : ℕ) → who < 2 ^ 64 → q < 16 → Host us who q → has (hosts us who) q ≡ true
     unfolding hosts link
     host-in who q f l o =
@@ -148,6 +159,7 @@ module _ (us : Users) where
     linked : (i : ℕ) → i < length (us .ids) → i < length (us .at)
     linked i l = rw (sized ∙ sym sized′) at l
 
+    -- a user id channel with its user's connection joined at most, and the other way
     home-is : (c m : ℕ) → at-home m (find (us .ids) c) ≡ true → Home us c m
     unfolding link
     home-is c m h = go (find (us .ids) c) refl h
@@ -166,6 +178,7 @@ module _ (us : Users) where
         there : o .who < length (us .at)
         there = linked (o .who) (in-list (us .ids) (o .who) (rw (o .named) cz))
 
+    -- a channel by its kind, and the other way
     sort-is : (c : ℕ) (k : Kind) (m : ℕ) → channel-sound us c k m ≡ true → Sort us c k m
     unfolding channel-sound
     sort-is c Static m h = let r = ranged 1 1000 c (ltb 0 m) h in (r .0, r .1, ltb-true 0 m (r .2))
@@ -188,6 +201,7 @@ module _ (us : Users) where
         (is-inside m _ (record { fits = x .2 .marks .fits; are = λ q h. host-in _ q (those-lt 64 _) (has-low 16 m q (x .2 .marks .fits) h) (x .2 .marks .are q h) }))
     is-sort c Assigned m x = and-both (is-between 1001 65535 c (x .0) (x .1)) (lt-ltb 0 m (x .2))
 
+    -- the test gives the rule, and the other way
     pub channel-row : (j c : ℕ) (ch : Channel) → channel-test live c ch ≡ true → ChannelRow live us j c ch
     channel-row j c ch h = let r = simp and-eq-true-iff at h in
         record { plain = same-channel-is ch _ (r .0 .0); joins = inside-is (ch .marks) live (r .0 .1); sort = sort-is c (kind ch) (ch .marks) (r .1) }
@@ -197,6 +211,7 @@ module _ (us : Users) where
 
 -- ---- one user
 
+-- the kind of a user's own channel
 user-is : (k : Kind) → is-user k ≡ true → k ≡ User
 unfolding is-user
 user-is Static e = absurd (false≢true e)
@@ -205,6 +220,7 @@ user-is (Private g us) e = absurd (false≢true e)
 user-is Assigned e = absurd (false≢true e)
 
 module _ (live : ℕ) (cs : Channels) where
+  -- a user has its own channel, and the other way
   owned-is : (u : ℕ) → is-user (kind (load (cs .cells) (find (cs .ids) u) no-channel)) ≡ true → Owned cs u
   unfolding load is-user kind
   owned-is u h = go (find (cs .ids) u) refl h
@@ -219,9 +235,11 @@ module _ (live : ℕ) (cs : Channels) where
       ap (λ (w : Place). is-user (kind (load (cs .cells) w no-channel))) (find-is (cs .ids) apart u (o .spot) uz (o .id-is))
       ∙ ap is-user (o .kind-is)
 
+  -- what `Good` asks of a user's place
   abbrev pub user-test : ℕ → ℕ → Bool
   user-test u p = between 1001 65535 u && has live p && is-user (kind (load (cs .cells) (find (cs .ids) u) no-channel))
 
+  -- it gives the rule, and the other way
   pub user-row : (i u p : ℕ) → user-test u p ≡ true → UserRow live cs i u p
   user-row i u p h =
       let r = simp and-eq-true-iff at h in

@@ -18,6 +18,7 @@ use Rattle.places.proofs.Members.{member-at, member-where}
 
 -- ---- no id twice
 
+-- the test passes: an id in use stands at one place
 pub distinct-apart : (ids : List ℕ) → distinct ids ≡ true → Apart ids
 unfolding distinct
 distinct-apart [] h i j l e = absurd (omega arith)
@@ -27,6 +28,7 @@ distinct-apart (x ∷ ids) h (suc i) zero l e =
     absurd (false≢true (sym (distinct-head x ids h (λ z. omega (arith, l, e, z))) ∙ ap (λ (y : ℕ). member y ids) (sym e) ∙ member-at ids i (in-list ids i l)))
 distinct-apart (x ∷ ids) h (suc i) (suc j) l e = ap suc (distinct-apart ids (distinct-tail x ids h) i j l e)
 
+-- and the other way
 pub apart-distinct : (ids : List ℕ) → Apart ids → distinct ids ≡ true
 unfolding distinct
 apart-distinct [] a = refl
@@ -43,6 +45,7 @@ apart-distinct (x ∷ ids) a = and-both (go (eqb x 0) refl (member x ids) refl) 
 -- ---- every place
 
 module _ {A : Type 0} (blank : A) (g : ℕ → A → Bool) where
+  -- a test of every place, read at one
   pub every-at : (k : ℕ) (ids : List ℕ) (cells : List A) → length ids ≡ length cells → every (λ i x c. g x c) k ids cells ≡ true
       → (i : ℕ) → i < length ids → g (getD ids i 0) (getD cells i blank) ≡ true
   unfolding every
@@ -51,6 +54,7 @@ module _ {A : Type 0} (blank : A) (g : ℕ → A → Bool) where
   every-at k (x ∷ ids) (c ∷ cells) l e zero h = and-parts (g x c) _ e .0
   every-at k (x ∷ ids) (c ∷ cells) l e (suc i) h = every-at (suc k) ids cells (suc-inj l) (and-parts (g x c) _ e .1) i (le-of-suc-le-suc h)
 
+  -- and the other way
   pub at-every : (k : ℕ) (ids : List ℕ) (cells : List A) → ((i : ℕ) → i < length ids → i < length cells → g (getD ids i 0) (getD cells i blank) ≡ true)
       → every (λ i x c. g x c) k ids cells ≡ true
   unfolding every
@@ -61,6 +65,7 @@ module _ {A : Type 0} (blank : A) (g : ℕ → A → Bool) where
 -- ---- a table in order is one that passes the tests: of a place in use, and of a free place
 
 module _ {A : Type 0} {blank : A} {n lim : ℕ} {P : ℕ → ℕ → A → Type 0} {ids : List ℕ} {cells : List A} where
+  -- the tests g of a place in use and b of a free one pass: the table is in order
   pub table-of : (g : (ℕ → A → Bool)) (b : (A → Bool)) → length ids ≡ n → length cells ≡ n → distinct ids ≡ true → used ids ≤ lim
       → every (λ i x c. eqb x 0 || g x c) 0 ids cells ≡ true → every (λ i x c. ltb 0 x || b c) 0 ids cells ≡ true
       → ((i x : ℕ) (c : A) → 0 < x → g x c ≡ true → P i x c) → ((c : A) → b c ≡ true → c ≡ blank)
@@ -78,6 +83,7 @@ module _ {A : Type 0} {blank : A} {n lim : ℕ} {P : ℕ → ℕ → A → Type 
       void i e true l = h _ (rw (le-ltb 0 (getD ids i 0) (omega arith)) at (every-at blank (λ x c. ltb 0 x || b c) 0 ids cells (s ∙ sym r) free i (ltb-true i (length ids) l)))
       void i e false l = List·getD-eq-default cells blank (let k : length ids ≤ i = ltb-false i (length ids) l in omega arith)
 
+  -- a table in order passes the test of places in use
   pub rows-of : Table n lim blank P ids cells → (g : (ℕ → A → Bool)) → ((i x : ℕ) (c : A) → 0 < x → P i x c → g x c ≡ true) → every (λ i x c. eqb x 0 || g x c) 0 ids cells ≡ true
   rows-of t g f = at-every blank (λ x c. eqb x 0 || g x c) 0 ids cells (λ i h m. go i (eqb (getD ids i 0) 0) refl)
     where
@@ -85,6 +91,7 @@ module _ {A : Type 0} {blank : A} {n lim : ℕ} {P : ℕ → ℕ → A → Type 
       go i true e = refl
       go i false e = let z : getD ids i 0 ≡ 0 → ⊥ = eqb-false (getD ids i 0) 0 e in let l : 0 < getD ids i 0 = omega arith in f i _ _ l (t .rows i l)
 
+  -- and that of free places
   pub free-of : Table n lim blank P ids cells → (b : (A → Bool)) → b blank ≡ true → every (λ i x c. ltb 0 x || b c) 0 ids cells ≡ true
   free-of t b h = at-every blank (λ x c. ltb 0 x || b c) 0 ids cells (λ i l m. go i (ltb 0 (getD ids i 0)) refl)
     where
