@@ -72,8 +72,7 @@ module _ (l : Limits) (ts : List Turn) (i : So (in-range l)) (y : All-bytewise t
       let a = f .alike in
       let g = past end in
       let h = event-past machine in
-      let c = event-demand l (map as-event ts) i (all-formed ts y) in
-      (
+      let c = event-demand l (map as-event ts) i (all-formed ts y) in (
         λ k u. ap held (gain-alike g h a k u) ∙ c .0 k u ∙ ap (λ (d : Domain). holder d k u) (sym (f .same-tables)),
         λ k u v s t. c .1 k u v (rw (gain-alike g h a k u) at s) (rw (gain-alike g h a k v) at t),
         (count-alike g h a ∙ c .2 .0 ∙ ap (λ (d : Domain). used (d .tokens .ids)) (sym (f .same-tables)), rw (count-alike g h a) (c .2 .1)),

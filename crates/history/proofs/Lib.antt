@@ -6,3 +6,4 @@ pub mod Alike
 pub mod AsHeard
 pub mod Follows
 pub mod Demand
+pub mod OneOutcome
