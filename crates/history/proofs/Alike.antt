@@ -1,17 +1,17 @@
 -- Histories with the same replies and messages sent, and the same events wherever the reply is 0, name the same homes, offers and holders.
 -- Assumes nothing.
-use mathlib.Core.Path.{_≡_, refl, ap, ap₂, _∙_}
+use mathlib.Core.Path.{_≡_, refl, ap, ap₂}
 use mathlib.Core.Bool.{Bool, true, false, _&&_, _||_}
-use mathlib.Core.List.{List, [], _∷_}
+use mathlib.Core.List.{[], _∷_}
 use mathlib.Core.Option.{Option, none, some}
 use Prim.Native.Nat.{ℕ}
 use borrow.Author.Tests.{eqb-true}
 use lib.Dec.{eqb}
 use lib.ListN.{length}
-use Rattle.places.specs.Sets.{if_then_else_, any, keep, below}
+use Rattle.places.specs.Sets.{any, keep, below}
 use Rattle.domain.specs.Events.{Event}
-use Rattle.domain.specs.History.{Entry, History, Word, detaches, closes, grabs, inhibits, yields, offers, accepts, declines, link-of, asks, same, is, told, said, closed, leaves, arrives, home, open-offer}
-use Rattle.domain.specs.History.{Gain, nothing, by-grab, by-inhibit, by-offer, gain, held, every-id, busy, count}
+use Rattle.domain.specs.History.{Entry, History, Word, detaches, closes, grabs, inhibits, yields, offers, accepts, declines, link-of, asks, same, is, told, said, closed, leaves, home, open-offer}
+use Rattle.domain.specs.History.{gain, held, every-id, busy, count}
 
 pub record Like (a b : Entry) : Type 0 where
   pub reply : a .reply ≡ b .reply

@@ -3,19 +3,18 @@
 use mathlib.Core.Path.{_≡_, refl, ap}
 use mathlib.Core.Bool.{Bool, true, false, not, _||_, So}
 use mathlib.Core.List.{List}
-use Prim.Native.Nat.{ℕ, _≤_, _<_}
+use Prim.Native.Nat.{ℕ, _<_}
 use native.Mathlib.Omega.{arith}
 use lib.Dec.{ltb}
 use lib.ListN.{length}
-use Rattle.octets.specs.Octets.{Bytes}
 use Rattle.places.specs.Sets.{if_then_else_, has}
 use Rattle.messages.specs.Messages.{may-go-up, is-served}
 use Rattle.messages.specs.Codec.{Outcome, ok, refuse, sized}
 use Rattle.messages.specs.Named.{Message, heard}
 use Rattle.messages.proofs.NamedLaws.{heard-formed}
-use Rattle.records.specs.Records.{Sent, records}
-use Rattle.domain.specs.Tables.{Domain, grant}
-use Rattle.domain.specs.Events.{Reading, reads, refuses, Event, hears, stays, sends, complaint, answers, step-with, step}
+use Rattle.records.specs.Records.{records}
+use Rattle.domain.specs.Tables.{Domain}
+use Rattle.domain.specs.Events.{Reading, reads, refuses, hears, stays, sends, complaint, answers, step-with, step}
 use Rattle.domain.specs.Claims.{formed}
 use Rattle.domain.proofs.invariant.Sound.{is-between}
 use Rattle.provider.specs.Provider.{number-in, read-as, understood}

@@ -2,35 +2,31 @@
 -- nothing.
 use mathlib.Core.Path.{_≡_, refl, sym, ap, ap₂, _∙_, subst}
 use mathlib.Core.Bool.{Bool, true, false, not, _&&_, So}
-use mathlib.Core.List.{List, [], _∷_, map}
-use mathlib.Core.Option.{some}
-use Prim.Native.Nat.{ℕ, _≤_}
+use mathlib.Core.List.{List, [], map}
+use Prim.Native.Nat.{ℕ}
 use native.Mathlib.Omega.{arith}
 use lib.Dec.{leb}
-use lib.ListN.{length, take}
-use Rattle.octets.specs.Octets.{Bytes}
+use lib.ListN.{length}
 use Rattle.places.specs.Sets.{if_then_else_}
 use Rattle.places.specs.Places.{used}
-use Rattle.messages.specs.Codec.{Outcome, ok}
-use Rattle.messages.specs.Named.{Message, heard}
+use Rattle.messages.specs.Codec.{Outcome}
+use Rattle.messages.specs.Named.{Message}
 use Rattle.domain.specs.declared.Limits.{Limits}
-use Rattle.domain.specs.declared.answer.Answer.{Answer}
-use Rattle.domain.specs.Numbers.{replyNumber}
 use Rattle.domain.specs.Tables.{Domain, fresh, in-range}
-use Rattle.domain.specs.Effects.{Settled}
 use Rattle.domain.specs.Events.{Event, hears, reads, step}
 use Rattle.domain.specs.Good.{Good}
-use Rattle.domain.specs.History.{full, told, gain, held, alone, busy, count}
-use Rattle.domain.specs.Claims.{holder, Turn as EventTurn, Run as EventRun, run as event-run, now, past as event-past, goes, from-fresh, told-full as event-told-full}
+use Rattle.domain.specs.History.{full, told, held}
+use Rattle.domain.specs.Claims.{holder, Run as EventRun, past as event-past, from-fresh, told-full as event-told-full}
 use Rattle.domain.proofs.invariant.Fresh.{fresh-good}
 use Rattle.domain.proofs.invariant.Invariant.{good-run}
 use Rattle.domain.proofs.holders.Demand.{demand as event-demand}
 use Rattle.provider.specs.Provider.{read-as, limited, begun, turned as answer-turned, after}
-use Rattle.history.specs.Recorded.{message, note, read-call, read-note, read}
-use Rattle.history.specs.Served.{Turn, event, All-bytewise, Run, run, tables, notes, noted, served, serves, started, Calls, no-more, then-calls}
+use Rattle.history.specs.Recorded.{message, read-call, read}
+use Rattle.history.specs.Served.{Turn, event, All-bytewise, Run, run, tables, notes, serves, started}
 use Rattle.history.specs.Claims.{past, told-full, Claims, of-runs, of-calls, demand-3}
 use Rattle.history.proofs.Alike.{Alike, told-alike, home-alike, gain-alike, busy-alike, count-alike}
 use Rattle.history.proofs.AsHeard.{same-event}
+use Rattle.history.proofs.Called.{calls-run}
 use Rattle.history.proofs.Follows.{as-event, all-formed, note-like, Follows, follows}
 
 -- ---- from limits in range
@@ -99,13 +95,12 @@ module _ (channels users tokens : ℕ) (before : Domain) where
       let b = begun-fresh z in
       subst (λ (r : Run). Claims (serves r ts) tokens) (sym (b .1)) (fresh-claims (limited channels users tokens) ts (b .0) y)
 
--- ---- what the public functions did is such a run
-pub calls-run : {r : Run} {ts : List Turn} {q : Run} → Calls r ts q → q ≡ serves r ts
-unfolding serves served tables notes
-calls-run no-more = refl
-calls-run (then-calls {ns = ns} {c = c} {ts = ts} a h rest) =
-    calls-run rest ∙ ap (λ (s : Settled Domain). serves (run (s .tables) (note c (s .reply) (take (s .sent) (s .room)) ∷ ns)) ts) h
+  calls-claims : (ts : List Turn) → of-calls channels users tokens before ts
+  unfolding started
+  calls-claims ts d z y r c =
+      let e : run d [] ≡ started channels users tokens before = ap (λ (x : ℕ × Domain). run (x .1) []) z in
+      let q : r ≡ serves (started channels users tokens before) ts = calls-run c ∙ ap (λ (x : Run). serves x ts) e in
+      rw q (runs-claims ts (sym (ap (λ (x : ℕ × Domain). x .0) z)) y)
 
 pub demand : demand-3
-demand channels users tokens before ts =
-    (runs-claims channels users tokens before ts, λ z y r c. subst (λ (q : Run). Claims q tokens) (sym (calls-run c)) (runs-claims channels users tokens before ts z y))
+demand channels users tokens before ts = (runs-claims channels users tokens before ts, calls-claims channels users tokens before ts)

@@ -1,6 +1,6 @@
 -- A run of the provider, read from what was noted, is the run of the domain's machine over the same events: the tables are the same, and the
 -- histories say the same. Assumes nothing.
-use mathlib.Core.Path.{_≡_, refl, sym, ap, _∙_}
+use mathlib.Core.Path.{_≡_, refl}
 use mathlib.Core.Bool.{So}
 use mathlib.Core.List.{List, [], _∷_, _++_, map}
 use Prim.Native.Nat.{ℕ}
@@ -19,8 +19,8 @@ use Rattle.domain.proofs.invariant.Sound.{between-is}
 use Rattle.domain.proofs.invariant.GoodIsSound.{good-sound}
 use Rattle.domain.proofs.invariant.Invariant.{grant-free, good-next}
 use Rattle.provider.specs.Provider.{turned as answer-turned, after}
-use Rattle.history.specs.Recorded.{Note, read-note, read-records, read}
-use Rattle.history.specs.Served.{Turn, event, Bytewise, All-bytewise, Run, run, tables, notes, noted, served, serves}
+use Rattle.history.specs.Recorded.{read-note, read-records, read}
+use Rattle.history.specs.Served.{Turn, event, Bytewise, All-bytewise, Run, tables, notes, noted, served, serves}
 use Rattle.history.proofs.ReadBack.{Readables, read-back}
 use Rattle.history.proofs.Sendable.{sent-readable}
 use Rattle.history.proofs.AsHeard.{event-legible, event-formed, same-event}

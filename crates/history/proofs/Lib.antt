@@ -5,5 +5,6 @@ pub mod Sendable
 pub mod Alike
 pub mod AsHeard
 pub mod Follows
+pub mod Called
 pub mod Demand
 pub mod OneOutcome

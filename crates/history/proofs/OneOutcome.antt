@@ -1,19 +1,17 @@
 -- Two outcomes that a promise of the provider allows are equal: the answer, every column, and the room. Assumes nothing.
 use mathlib.Core.Path.{_≡_, refl, sym, ap, _∙_}
 use mathlib.Core.List.{List, [], _∷_, map}
-use Prim.Native.Nat.{ℕ, suc}
+use Prim.Native.Nat.{ℕ}
 use native.Mathlib.Omega.{arith}
 use lib.ListN.{length}
 use Rattle.places.specs.Places.{used}
 use Rattle.domain.specs.declared.Limits.{Limits}
 use Rattle.domain.specs.declared.answer.Answer.{Answer}
-use Rattle.domain.specs.declared.channel.Channel.{Channel}
 use Rattle.domain.specs.declared.numbers.Reply.{Reply}
-use Rattle.domain.specs.declared.token.Token.{Token}
 use Rattle.domain.specs.Numbers.{replyNumber}
 use Rattle.domain.specs.Tables.{Channels, Domain, channel-cells, token-cells, domain-of, fresh, put-links}
 use Rattle.domain.specs.Effects.{Settled, settled, answered}
-use Rattle.domain.specs.Events.{Event, opens, loses, hears}
+use Rattle.domain.specs.Events.{opens, loses, hears}
 use Rattle.provider.specs.declared.starting.Started.{Started}
 use Rattle.provider.specs.Provider.{understood, after, limited, begun, audience}
 use Rattle.provider.proofs.Replies.{same-reply, one-outcome}

@@ -1,14 +1,12 @@
 -- The records sent are read back from their octets. Assumes nothing.
-use mathlib.Core.Path.{_≡_, refl, sym, ap, _∙_}
+use mathlib.Core.Path.{_≡_, refl, _∙_}
 use mathlib.Core.Bool.{true}
 use mathlib.Core.List.{List, [], _∷_, _++_}
-use Prim.Native.Nat.{ℕ, zero, suc, _+_, _-_, _*_, _/_, _%_, _≤_, zero-le}
+use Prim.Native.Nat.{ℕ, zero, suc, _+_, _-_, _≤_, zero-le}
 use native.Mathlib.Omega.{arith}
 use borrow.Author.Tests.{le-leb}
-use lib.Dec.{leb, eqb}
-use lib.ListN.{length, getD, take, drop, length-append}
+use lib.ListN.{length, length-append}
 use lib.Seq.{take-append-seam, drop-append-seam}
-use Rattle.places.specs.Sets.{if_then_else_}
 use Rattle.messages.specs.Limits.{message-limit}
 use Rattle.messages.specs.Codec.{ok}
 use Rattle.messages.specs.Named.{Message, formed, heard}

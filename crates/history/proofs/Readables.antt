@@ -3,14 +3,14 @@ use mathlib.Core.Path.{_≡_, refl}
 use mathlib.Core.Bool.{Bool, true, false}
 use mathlib.Core.List.{List, [], _∷_, _++_, map}
 use mathlib.Core.Option.{Option, none, some}
-use Prim.Native.Nat.{ℕ, zero, suc, _+_, _*_, _≤_, _<_, zero-le}
+use Prim.Native.Nat.{ℕ, zero, suc, _≤_, zero-le}
 use native.Mathlib.Omega.{arith}
 use lib.ListN.{length, take, length-take}
 use Rattle.places.specs.Sets.{if_then_else_, keep, each, listed, links}
 use Rattle.octets.specs.Octets.{Bytes, anOctet, anId}
 use Rattle.messages.specs.Limits.{message-limit}
 use Rattle.messages.specs.Named.{Message, RJum, AUcf, DUin, CJcf, CCcf, CDin, CAin, CEin, TGcf, TIcf, TVcf, TRcf, TVin, TPin, TTcf}
-use Rattle.messages.proofs.NamedLaws.{Between, InItem, Each, Listed, User, Channel, Token, Users, Present, Ranges, in-ranges, sizeOf, idsSize, short-length}
+use Rattle.messages.proofs.NamedLaws.{Between, Each, User, Channel, Token, Users, Present, Ranges, in-ranges, sizeOf, idsSize, short-length}
 use Rattle.records.specs.Records.{Sent, to, tell}
 use Rattle.records.specs.declared.compose.Confirm.{Confirm}
 use Rattle.records.specs.declared.compose.Confirm.the-variants.{Grab, Inhibit, Give, Release}

@@ -1,43 +1,39 @@
 -- What an event sends from sound tables is read back: every message is formed and short enough. Assumes nothing.
 use mathlib.Core.Path.{_≡_, refl}
 use mathlib.Core.Bool.{Bool, true, false, not, _&&_, _||_, false≢true}
-use mathlib.Core.List.{List, [], _∷_, _++_}
-use mathlib.Core.Option.{Option, none, some}
-use Prim.Native.Nat.{ℕ, zero, suc, _≤_, _<_, zero-le}
+use mathlib.Core.List.{List, [], _++_}
+use Prim.Native.Nat.{ℕ, _≤_}
 use native.Mathlib.Omega.{arith}
 use lib.Dec.{eqb, ltb}
-use lib.ListN.{length, take, getD}
+use lib.ListN.{length, getD}
 use Rattle.octets.specs.Octets.{Bytes}
-use Rattle.places.specs.Sets.{if_then_else_, keep, any, null, each, below, once, has, with, only, meet, links, seats}
+use Rattle.places.specs.Sets.{if_then_else_, null, each, below, once, has, with, meet, links, seats}
 use Rattle.places.specs.Places.{Place, At, Nowhere, find, found, inOrder, load}
 use Rattle.places.proofs.Order.{keep-le}
 use Rattle.places.proofs.Rows.{find-holds}
 use Rattle.messages.specs.Named.{Message, EDrq, DPum, RJum, AUrq, AUcf, DUrq, DUin, CJrq, CJcf, CLrq, CCrq, CCcf, CDrq, CDin, CArq, CAin, CErq, CEin}
 use Rattle.messages.specs.Named.{TGrq, TGcf, TIrq, TIcf, TVrq, TVin, TVrs, TVcf, TPrq, TPin, TRrq, TRcf, TTrq, TTcf, formed}
-use Rattle.messages.proofs.NamedLaws.{User, Channel, Token, Users, ranges}
-use Rattle.records.specs.Records.{Sent, to, tell, records}
-use Rattle.records.specs.declared.compose.Confirm.{Confirm}
-use Rattle.records.specs.declared.compose.Confirm.the-variants.{Grab, Inhibit, Give, Release}
-use Rattle.records.specs.Confirms.{confirm}
+use Rattle.messages.proofs.NamedLaws.{User, Token, Users, ranges}
+use Rattle.records.specs.Records.{Sent, tell, records}
+use Rattle.records.specs.declared.compose.Confirm.the-variants.{Give}
 use Rattle.domain.specs.declared.channel.Kind.{Kind}
 use Rattle.domain.specs.declared.channel.Kind.the-variants.{Static, User as UserId, Private, Assigned}
 use Rattle.domain.specs.declared.token.Holding.{Holding}
 use Rattle.domain.specs.declared.token.Holding.the-variants.{Free, Grabbed, Inhibited, Giving, Given}
 use Rattle.domain.specs.Cells.{no-channel, no-token, kind, hold}
-use Rattle.domain.specs.Tables.{Users as Names, Channels, Tokens, Domain, name, link, attached, channel, hosts, state, put-links, put-channels, put-tokens, put-both, grant}
-use Rattle.domain.specs.Tokens.{Turned, fails, turns, status, grab, inhibit, release, grabbed-by, offered-to, answered, party}
-use Rattle.domain.specs.Effects.{Effect, ignored, done, from, within}
-use Rattle.domain.specs.Channels.{attach, may, join-at, join-new, join, joined, leave-channels, convene, owned, manages, disband, places, own, attached-of, admitted-of, admit, expel}
-use Rattle.domain.specs.Passing.{turn, take-token, share-token, drop-token, offer, informed, answer, please, test}
+use Rattle.domain.specs.Tables.{Users as Names, Domain, name, link, attached, hosts, state, put-links, put-channels, put-tokens, put-both, grant}
+use Rattle.domain.specs.Tokens.{offered-to}
+use Rattle.domain.specs.Effects.{Effect, ignored, done}
+use Rattle.domain.specs.Channels.{places, own, attached-of, admitted-of, admit, expel}
+use Rattle.domain.specs.Passing.{informed, answer}
 use Rattle.domain.specs.Leaving.{ended, returned, farewell, leave, those-on, detach, close}
 use Rattle.domain.specs.Events.{Reading, reads, refuses, Event, opens, loses, hears, stays, sends, ends, complaint, act, answers, step-with, step, users-full, channels-full, tokens-full}
 use Rattle.domain.proofs.invariant.Sound.{Seated, Sort, Held, Sound}
-use Rattle.domain.proofs.invariant.From.{from-by}
 use Rattle.domain.proofs.invariant.Held.{state-held}
 use Rattle.farewell.proofs.Rounds.{in-order-length}
 use Rattle.provider.proofs.Room.{once-le}
 use Rattle.history.proofs.ReadBack.{Readable, Readables}
-use Rattle.history.proofs.Readables.{confirm-readable, TVin-readable, TPin-readable, TTcf-readable, CDin-readable, AUcf-readable, CJcf-readable, CCcf-readable, DUin-readable, CAin-readable, CEin-readable, RJum-readable}
+use Rattle.history.proofs.Readables.{confirm-readable, CDin-readable, DUin-readable, CAin-readable, CEin-readable, RJum-readable}
 use Rattle.history.proofs.Readables.{all-append, all-told, all-each, all-either, kept-users}
 use Rattle.history.proofs.Told.{Told, told-either, told-from, told-within, status-le, attach-told, convene-told, join-told, leave-channels-told, manages-told, disband-told, take-told, share-told, drop-told, offer-told, please-told, test-told}
 

@@ -1,8 +1,8 @@
 -- What is claimed of every run of the provider from a domain just made, read from what can be recorded of it alone.
 use Prim.Native.Nat.{ℕ, _≤_}
 use mathlib.Core.Path.{_≡_}
-use mathlib.Core.Bool.{Bool, not, _&&_, So}
-use mathlib.Core.List.{List}
+use mathlib.Core.Bool.{not, _&&_, So}
+use mathlib.Core.List.{List, []}
 use mathlib.Core.Option.{some}
 use lib.Dec.{leb}
 use Rattle.places.specs.Places.{used}
@@ -13,8 +13,8 @@ use Rattle.domain.specs.Tables.{Domain}
 use Rattle.domain.specs.History.{History, full, told, home, gain, held, alone, busy, count}
 use Rattle.domain.specs.Claims.{holder}
 use Rattle.provider.specs.Provider.{begun}
-use Rattle.history.specs.Recorded.{Note, message, read-note, read}
-use Rattle.history.specs.Served.{Turn, All-bytewise, Run, tables, notes, noted, serves, started, Calls}
+use Rattle.history.specs.Recorded.{message, read-note, read}
+use Rattle.history.specs.Served.{Turn, All-bytewise, Run, run, tables, notes, noted, serves, started, Calls}
 
 -- the history that the notes of a run are
 abbrev pub past : Run → History
@@ -50,9 +50,11 @@ module _ (channels users tokens : ℕ) (before : Domain) (ts : List Turn) where
   abbrev pub of-runs : Type 0
   of-runs = begun channels users tokens before .0 ≡ 0 → All-bytewise ts → Claims (serves (started channels users tokens before) ts) tokens
 
-  -- the same of what the public functions did
+  -- the same of what the public functions did, from the tables that `start` left with reply 0
   abbrev pub of-calls : Type 0
-  of-calls = begun channels users tokens before .0 ≡ 0 → All-bytewise ts → (r : Run) → Calls (started channels users tokens before) ts r → Claims r tokens
+  of-calls =
+      (d : Domain) → _≡_ {A = ℕ × Domain} (0, d) (begun channels users tokens before) → All-bytewise ts
+      → (r : Run) → Calls (run d []) ts r → Claims r tokens
 
 abbrev pub demand-3 : Type 0
 demand-3 = (channels users tokens : ℕ) (before : Domain) (ts : List Turn) → of-runs channels users tokens before ts × of-calls channels users tokens before ts
