@@ -2,7 +2,6 @@
 use mathlib.Core.Path.{_≡_, refl, ap, _∙_}
 use mathlib.Core.List.{List, [], _∷_}
 use Prim.Native.Nat.{ℕ}
-use lib.ListN.{take}
 use Rattle.domain.specs.declared.answer.Answer.{Answer}
 use Rattle.domain.specs.declared.numbers.Reply.{Reply}
 use Rattle.domain.specs.Numbers.{replyNumber}
@@ -11,13 +10,13 @@ use Rattle.domain.specs.Effects.{Settled, settled, answered}
 use Rattle.domain.specs.Events.{opens, loses, hears}
 use Rattle.provider.specs.Provider.{understood, after}
 use Rattle.history.specs.Recorded.{opening, losing, message, Note, note}
-use Rattle.history.specs.Served.{Turn, event, Run, run, tables, notes, served, serves, Calls, no-more, then-calls}
+use Rattle.history.specs.Served.{Turn, event, Run, run, tables, notes, noting, served, serves, Calls, no-more, then-calls}
 
 pub calls-run : {r : Run} {ts : List Turn} {q : Run} → Calls r ts q → q ≡ serves r ts
 unfolding serves served tables notes
 calls-run no-more = refl
 calls-run (then-calls {ns = ns} {c = c} {ts = ts} a h rest) =
-    calls-run rest ∙ ap (λ (s : Settled Domain). serves (run (s .tables) (note c (s .reply) (take (s .sent) (s .room)) ∷ ns)) ts) h
+    calls-run rest ∙ ap (λ (s : Settled Domain). serves (run (s .tables) (noting c s ∷ ns)) ts) h
 
 -- `open`, `lose` and `message`, by what each promises
 module _ (ns : List Note) (p : ℕ) where
@@ -29,11 +28,11 @@ module _ (ns : List Note) (p : ℕ) where
 
   module _ (d e : Domain) (room behind : List ℕ) (a : Answer) where
     pub lose-call : answered a e behind ≡ after d (loses p) room
-        → Calls (run d ns) ((losing p, room) ∷ []) (run e (note (losing p) (replyNumber (a .reply)) (take (a .sent) behind) ∷ ns))
+        → Calls (run d ns) ((losing p, room) ∷ []) (run e (noting (losing p) (answered a e behind) ∷ ns))
     unfolding event
     lose-call h = then-calls a h no-more
 
     pub message-call : (os : List ℕ) → answered a e behind ≡ after d (hears p (understood os)) room
-        → Calls (run d ns) ((message p os, room) ∷ []) (run e (note (message p os) (replyNumber (a .reply)) (take (a .sent) behind) ∷ ns))
+        → Calls (run d ns) ((message p os, room) ∷ []) (run e (noting (message p os) (answered a e behind) ∷ ns))
     unfolding event
     message-call os h = then-calls a h no-more

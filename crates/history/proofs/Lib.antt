@@ -8,3 +8,4 @@ pub mod Follows
 pub mod Called
 pub mod Demand
 pub mod OneOutcome
+pub mod Worked

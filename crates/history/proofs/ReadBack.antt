@@ -1,11 +1,11 @@
 -- The records sent are read back from their octets. Assumes nothing.
-use mathlib.Core.Path.{_≡_, refl, _∙_}
+use mathlib.Core.Path.{_≡_, refl, ap, _∙_}
 use mathlib.Core.Bool.{true}
 use mathlib.Core.List.{List, [], _∷_, _++_}
 use Prim.Native.Nat.{ℕ, zero, suc, _+_, _-_, _≤_, zero-le}
 use native.Mathlib.Omega.{arith}
 use borrow.Author.Tests.{le-leb}
-use lib.ListN.{length, length-append}
+use lib.ListN.{length, take, drop, length-append}
 use lib.Seq.{take-append-seam, drop-append-seam}
 use Rattle.messages.specs.Limits.{message-limit}
 use Rattle.messages.specs.Codec.{ok}
@@ -13,7 +13,7 @@ use Rattle.messages.specs.Named.{Message, formed, heard}
 use Rattle.messages.proofs.NamedLaws.{sizeOf, formed-sent, sent-heard}
 use Rattle.records.proofs.Laying.{framed-length}
 use Rattle.records.specs.Records.{Sent, to, wire, framed, octets, records}
-use Rattle.history.specs.Recorded.{size, is-record, carried, read-some, read-records}
+use Rattle.history.specs.Recorded.{size, is-record, inside, carried, read-some, read-records}
 
 -- a message that the codec writes: fields in range, and not too long
 pub record Readable (m : Message) : Type 0 where
@@ -40,12 +40,21 @@ module _ (w : List ℕ) (q : ℕ) (rest : List ℕ) where
       let there = le-leb (2 + (length w + 2)) (length (framed w q ++ rest)) (omega (arith, length-append w rest)) in
       rw (framed-size, le-leb 2 (length w + 2) (omega arith), there) refl
 
+  framed-inside : inside (framed w q ++ rest) ≡ w
+  unfolding inside framed
+  framed-inside =
+      let shown : size (framed w q ++ rest) - 2 ≡ length w = omega (arith, framed-size) in
+      ap (λ (n : ℕ). take n (drop 4 (framed w q ++ rest))) shown ∙ take-append-seam w rest
+
+  framed-behind : drop (2 + size (framed w q ++ rest)) (framed w q ++ rest) ≡ rest
+  unfolding framed
+  framed-behind =
+      let past : 2 + size (framed w q ++ rest) ≡ suc (suc (suc (suc (length w)))) = omega (arith, framed-size) in
+      ap (λ (n : ℕ). drop n (framed w q ++ rest)) past ∙ drop-append-seam w rest
+
   framed-read : (n : ℕ) → read-some (suc n) (framed w q ++ rest) ≡ carried q (heard w) ++ read-some n rest
   unfolding read-some framed
-  framed-read n =
-      let shown : length w + 2 - 2 ≡ length w = omega arith in
-      let past : 2 + (length w + 2) ≡ suc (suc (suc (suc (length w)))) = omega arith in
-      rw (framed-is, framed-size, shown, past, take-append-seam w rest, drop-append-seam w rest) refl
+  framed-read n = rw (framed-is, framed-inside, framed-behind) refl
 
 -- ---- all of them
 read-none : (n : ℕ) → read-some n [] ≡ []

@@ -42,6 +42,10 @@ size os = getD os 0 0 * 256 + getD os 1 0
 unfoldable pub is-record : List ℕ → Bool
 is-record os = leb 2 (size os) && leb (2 + size os) (length os) && eqb (getD os 2 0) 1
 
+-- the octets of its message
+unfoldable pub inside : List ℕ → List ℕ
+inside os = take (size os - 2) (drop 4 os)
+
 -- what a record carries for connection q; a message that cannot be read is passed over
 unfoldable pub carried : (q : ℕ) (x : Outcome Message) → List Sent
 carried q (ok m) = to q m ∷ []
@@ -52,7 +56,7 @@ unfoldable pub read-some : (n : ℕ) (os : List ℕ) → List Sent
 read-some zero os = []
 read-some (suc n) os =
     let behind = read-some n (drop (2 + size os) os) in
-    if is-record os then carried (getD os 3 0) (heard (take (size os - 2) (drop 4 os))) ++ behind else []
+    if is-record os then carried (getD os 3 0) (heard (inside os)) ++ behind else []
 
 -- there are no more records than octets
 unfoldable pub read-records : List ℕ → List Sent

@@ -5,7 +5,6 @@ use mathlib.Core.List.{List, [], _∷_}
 use lib.ListN.{take}
 use Rattle.octets.specs.Octets.{Bytes}
 use Rattle.domain.specs.declared.answer.Answer.{Answer}
-use Rattle.domain.specs.Numbers.{replyNumber}
 use Rattle.domain.specs.Tables.{Domain}
 use Rattle.domain.specs.Effects.{Settled, answered}
 use Rattle.domain.specs.Events.{Event, opens, loses, hears}
@@ -42,12 +41,16 @@ tables (run d ns) = d
 unfoldable pub notes : Run → List Note
 notes (run d ns) = ns
 
--- what a call leaves, and what is noted of it: the octets sent are the first of the room, as many as the answer says
+-- what is noted of a call: the reply, and the octets sent, which are the first of the room, as many as the answer says
+abbrev pub noting : Call → Settled Domain → Note
+noting c s = note c (s .reply) (take (s .sent) (s .room))
+
+-- what a call leaves, the note of it, and the run with both
 abbrev pub left : Run → Turn → Settled Domain
 left r t = after (tables r) (event (t .0)) (t .1)
 
 abbrev pub noted : Run → Turn → Note
-noted r t = note (t .0) (left r t .reply) (take (left r t .sent) (left r t .room))
+noted r t = noting (t .0) (left r t)
 
 unfoldable pub served : Run → Turn → Run
 served r t = run (left r t .tables) (noted r t ∷ notes r)
@@ -65,5 +68,5 @@ pub data Calls : Run → List Turn → Run → Type 0 where
   no-more : {r : Run} → Calls r [] r
   then-calls : {d e : Domain} {ns : List Note} {c : Call} {before behind : List ℕ} {ts : List Turn} {r : Run} (a : Answer)
       → answered a e behind ≡ after d (event c) before
-      → Calls (run e (note c (replyNumber (a .reply)) (take (a .sent) behind) ∷ ns)) ts r
+      → Calls (run e (noting c (answered a e behind) ∷ ns)) ts r
       → Calls (run d ns) ((c, before) ∷ ts) r
