@@ -1,6 +1,8 @@
 pub mod ReadBack
 pub mod Readables
 pub mod Told
+pub mod Tabled
+pub mod Parting
 pub mod Sendable
 pub mod Alike
 pub mod AsHeard
