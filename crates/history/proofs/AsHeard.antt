@@ -37,12 +37,14 @@ understood-by os P f g =
     go (ok m) e = g m e
     go (refuse n) e = f n
 
+-- octets below 256 give an event that can be read
 pub event-legible : (c : Call) → Bytewise c → Comes-legible (event c)
 unfolding event
 event-legible (opening p) y = tt
 event-legible (losing p) y = tt
 event-legible (message p os) y = understood-by os Legible (λ n. y) (heard-formed os y)
 
+-- and one that the machine takes
 pub event-formed : (c : Call) → Bytewise c → So (formed (event c))
 unfolding event formed
 event-formed (opening p) y = refl
@@ -60,6 +62,7 @@ refused-reply d p n os room h = go (ltb 15 p || not (has (d .links) p)) (ltb roo
     go false true e = omega arith
     go false false e = omega arith
 
+-- an event answered 0 is what history reads
 pub same-event : (d : Domain) (c : Call) (room : ℕ) → step d (event c) room .reply ≡ 0 → read-call c ≡ event c
 unfolding event read-call read-as
 same-event d (opening p) room z = refl

@@ -10,8 +10,9 @@ use Rattle.domain.specs.Effects.{Settled, settled, answered}
 use Rattle.domain.specs.Events.{opens, loses, hears}
 use Rattle.provider.specs.Provider.{understood, after}
 use Rattle.history.specs.Recorded.{opening, losing, message, Note, note}
-use Rattle.history.specs.Served.{Turn, event, Run, run, tables, notes, noting, served, serves, Calls, no-more, then-calls}
+use Rattle.history.specs.Served.{Turn, event, Run, run, tables, notes, noting, noted, served, serves, Calls, no-more, then-calls}
 
+-- call by call, by the promises alone
 pub calls-run : {r : Run} {ts : List Turn} {q : Run} → Calls r ts q → q ≡ serves r ts
 unfolding serves served tables notes
 calls-run no-more = refl
@@ -20,6 +21,7 @@ calls-run (then-calls {ns = ns} {c = c} {ts = ts} a h rest) =
 
 -- `open`, `lose` and `message`, by what each promises
 module _ (ns : List Note) (p : ℕ) where
+  -- nothing is sent, whatever the room
   pub open-call : (d : Domain) (links left : ℕ) (room : List ℕ) (r : Reply)
       → ((d : Domain) (out : List ℕ) → settled (replyNumber r) 0 (put-links d left) out ≡ after (put-links d links) (opens p) out)
       → Calls (run (put-links d links) ns) ((opening p, room) ∷ []) (run (put-links d left) (note (opening p) (replyNumber r) [] ∷ ns))
@@ -27,12 +29,18 @@ module _ (ns : List Note) (p : ℕ) where
   open-call d links left room r h = then-calls {behind = room} (record { reply = r; sent = 0 }) (h d room) no-more
 
   module _ (d e : Domain) (room behind : List ℕ) (a : Answer) where
+    -- a loss
     pub lose-call : answered a e behind ≡ after d (loses p) room
         → Calls (run d ns) ((losing p, room) ∷ []) (run e (noting (losing p) (answered a e behind) ∷ ns))
     unfolding event
     lose-call h = then-calls a h no-more
 
+    -- a message of any octets
     pub message-call : (os : List ℕ) → answered a e behind ≡ after d (hears p (understood os)) room
         → Calls (run d ns) ((message p os, room) ∷ []) (run e (noting (message p os) (answered a e behind) ∷ ns))
     unfolding event
     message-call os h = then-calls a h no-more
+
+-- what is noted of the next call is fixed by its promise
+pub call-noted : (r : Run) (t : Turn) (a : Answer) (e : Domain) (behind : List ℕ) → answered a e behind ≡ after (tables r) (event (t .0)) (t .1) → noting (t .0) (answered a e behind) ≡ noted r t
+call-noted r t a e behind h = ap (noting (t .0)) h

@@ -31,16 +31,20 @@ use Rattle.history.proofs.Follows.{as-event, all-formed, note-like, Fol
 
 -- ---- from limits in range
 module _ (l : Limits) (ts : List Turn) (i : So (in-range l)) (y : All-bytewise ts) where
+  -- the run of the provider
   abbrev end : Run
   end = serves (run (fresh l) []) ts
 
+  -- the machine's run over the same events
   abbrev machine : EventRun
   machine = from-fresh l (map as-event ts)
 
+  -- they go together
   same-run : Follows end machine
   unfolding from-fresh tables notes read
   same-run = follows ts (run (fresh l) []) [] (fresh-good l i) tt y
 
+  -- the tables are good
   good-end : Good (tables end)
   good-end = rw (same-run .same-tables) (good-run l (map as-event ts) i (all-formed ts y))
 
@@ -62,6 +66,7 @@ module _ (l : Limits) (ts : List Turn) (i : So (in-range l)) (y : All-bytewise t
       asks : event (message p os) ≡ asked
       asks = sym (same-event (tables end) (message p os) (length room) z) ∙ ap (λ (x : Outcome Message). hears p (read-as os x)) e
 
+  -- all four claims
   fresh-claims : Claims end (l .tokens)
   fresh-claims =
       let f = same-run in
@@ -78,6 +83,7 @@ module _ (l : Limits) (ts : List Turn) (i : So (in-range l)) (y : All-bytewise t
 
 -- ---- from what `start` made
 module _ (channels users tokens : ℕ) (before : Domain) where
+  -- reply 0 says that the limits are in range and the domain is fresh
   begun-fresh : begun channels users tokens before .0 ≡ 0 → So (in-range (limited channels users tokens)) × (started channels users tokens before ≡ run (fresh (limited channels users tokens)) [])
   unfolding begun started
   begun-fresh = go (in-range (limited channels users tokens)) refl
@@ -90,11 +96,13 @@ module _ (channels users tokens : ℕ) (before : Domain) where
       go true e z = (e, refl)
       go false e z = absurd (omega arith)
 
+  -- of the run
   runs-claims : (ts : List Turn) → of-runs channels users tokens before ts
   runs-claims ts z y =
       let b = begun-fresh z in
       subst (λ (r : Run). Claims (serves r ts) tokens) (sym (b .1)) (fresh-claims (limited channels users tokens) ts (b .0) y)
 
+  -- of what was called
   calls-claims : (ts : List Turn) → of-calls channels users tokens before ts
   unfolding started
   calls-claims ts d z y r c =
@@ -102,5 +110,6 @@ module _ (channels users tokens : ℕ) (before : Domain) where
       let q : r ≡ serves (started channels users tokens before) ts = calls-run c ∙ ap (λ (x : Run). serves x ts) e in
       rw q (runs-claims ts (sym (ap (λ (x : ℕ × Domain). x .0) z)) y)
 
+-- the whole demand
 pub demand : demand-3
 demand channels users tokens before ts = (runs-claims channels users tokens before ts, calls-claims channels users tokens before ts)

@@ -30,6 +30,7 @@ use Rattle.history.proofs.Alike.{Like, Alike}
 abbrev pub as-event : Turn → EventTurn
 as-event t = (event (t .0), length (t .1))
 
+-- the machine takes each of them
 pub all-formed : (ts : List Turn) → All-bytewise ts → So (all (λ t. formed (t .0)) (map as-event ts))
 unfolding all
 all-formed [] y = refl
@@ -39,6 +40,7 @@ all-formed (t ∷ ts) y = and-both (event-formed (t .0) (y .0)) (all-formed ts (
 abbrev pub entry : Domain → Turn → Entry
 entry d t = let o = step d (event (t .0)) (length (t .1)) in record { event = event (t .0); reply = o .reply; sent = o .sent }
 
+-- the id of a new user or channel is in its range
 granted : (d : Domain) → Good d → User (grant (d .channels))
 granted d g = let b = between-is 1001 65535 (grant (d .channels)) (and-parts (between 1001 65535 (grant (d .channels))) _ (grant-free d g) .0) in record { least = b .0; most = b .1 }
 
@@ -55,10 +57,12 @@ note-like r t g y = record {
   event = same-event (tables r) (t .0) (length (t .1));
 }
 
+-- the same tables, and histories that say the same
 pub record Follows (r : Run) (q : EventRun) : Type 0 where
   pub same-tables : tables r ≡ now q
   pub alike : Alike (read (notes r)) (past q)
 
+-- turn by turn, from any good tables and histories that say the same
 pub follows : (ts : List Turn) (r : Run) (h : History) → Good (tables r) → Alike (read (notes r)) h → All-bytewise ts → Follows (serves r ts) (goes (event-run (tables r) h) (map as-event ts))
 unfolding serves goes turned now past served tables notes read after answer-turned
 follows [] r h g s y = record { same-tables = refl; alike = s }

@@ -30,6 +30,7 @@ pub record Columns : Type 0 where
   pub modes : List ℕ
   pub values : List ℕ
 
+-- the domain that they are
 abbrev pub domain : Limits → Columns → Domain
 domain l t = domain-of l (t .links) (t .names) (t .homes) (t .ids) (t .roles) (t .chairs) (t .guests) (t .marks) (t .keys) (t .modes) (t .values)
 
@@ -41,13 +42,17 @@ pub record Shaped (t : Columns) : Type 0 where
   pub values-size : length (t .values) ≡ length (t .modes)
 
 -- ---- the columns of a table are read off its cells
+
+-- a list of no length
 none-left : (xs : List ℕ) → length xs ≡ 0 → [] ≡ xs
 none-left [] e = refl
 none-left (x ∷ xs) e = absurd (omega arith)
 
+-- one more at the head
 same-head : (x : ℕ) {xs ys : List ℕ} → xs ≡ ys → _≡_ {A = List ℕ} (x ∷ xs) (x ∷ ys)
 same-head x e = ap (λ (l : List ℕ). x ∷ l) e
 
+-- of channels
 channel-columns : (rs cs gs ms : List ℕ) → length cs ≡ length rs → length gs ≡ length rs → length ms ≡ length rs
     → (map (λ ch. ch .role) (channel-cells rs cs gs ms) ≡ rs) × (map (λ ch. ch .chair) (channel-cells rs cs gs ms) ≡ cs) × (map (λ ch. ch .guests) (channel-cells rs cs gs ms) ≡ gs) × (map (λ ch. ch .marks) (channel-cells rs cs gs ms) ≡ ms)
 unfolding channel-cells
@@ -59,6 +64,7 @@ channel-columns (r ∷ rs) (x ∷ cs) (g ∷ gs) (m ∷ ms) a b c =
     let i = channel-columns rs cs gs ms (omega arith) (omega arith) (omega arith) in
     (same-head r (i .0), same-head x (i .1), same-head g (i .2), same-head m (i .3))
 
+-- of tokens
 token-columns : (ms vs : List ℕ) → length vs ≡ length ms → (map (λ t. t .mode) (token-cells ms vs) ≡ ms) × (map (λ t. t .value) (token-cells ms vs) ≡ vs)
 unfolding token-cells
 token-columns [] vs a = (refl, none-left vs a)
@@ -70,9 +76,11 @@ same-column : {A : Type 0} {cs ds : List A} {xs ys : List ℕ} (f : (A → ℕ))
 same-column f e p q = sym p ∙ ap (map f) e ∙ q
 
 module _ {l m : Limits} (s t : Columns) (x : Shaped s) (y : Shaped t) (e : domain l s ≡ domain m t) where
+  -- equal domains have equal limits
   same-limits : l ≡ m
   same-limits = ap (λ (d : Domain). d .limits) e
 
+  -- and equal columns
   same-columns : s ≡ t
   same-columns =
       let p = channel-columns (s .roles) (s .chairs) (s .guests) (s .marks) (x .chairs-size) (x .guests-size) (x .marks-size) in
@@ -102,14 +110,17 @@ module _ (s t : Columns) (x : Shaped s) (y : Shaped t) where
   event-outcome l r q o b z e f = let w = one-outcome r q z e f in (w .0, same-columns s t x y (w .1), w .2)
 
   module _ (before : Columns) (p : ℕ) (out : List ℕ) (r q : Answer) (o b : List ℕ) where
+    -- of `message`
     pub message-outcome : (l : Limits) (os : List ℕ) → answered r (domain l s) o ≡ after (domain l before) (hears p (understood os)) out
         → answered q (domain l t) b ≡ after (domain l before) (hears p (understood os)) out → (r ≡ q) × (s ≡ t) × (o ≡ b)
     message-outcome l os e f = event-outcome l r q o b (after (domain l before) (hears p (understood os)) out) e f
 
+    -- of `lose`
     pub lose-outcome : ((l : Limits) → answered r (domain l s) o ≡ after (domain l before) (loses p) out)
         → ((l : Limits) → answered q (domain l t) b ≡ after (domain l before) (loses p) out) → (r ≡ q) × (s ≡ t) × (o ≡ b)
     lose-outcome e f = event-outcome (limited 0 0 0) r q o b (after (domain (limited 0 0 0) before) (loses p) out) (e (limited 0 0 0)) (f (limited 0 0 0))
 
+  -- of `start`
   pub start-outcome : (channels users tokens : ℕ) (before : Domain) (r q : Started)
       → _≡_ {A = ℕ × Domain} (replyNumber (r .reply), domain (r .limits) s) (begun channels users tokens before)
       → _≡_ {A = ℕ × Domain} (replyNumber (q .reply), domain (q .limits) t) (begun channels users tokens before)
@@ -120,6 +131,7 @@ module _ (s t : Columns) (x : Shaped s) (y : Shaped t) where
       let d = ap (λ (w : ℕ × Domain). w .1) z in
       (λ i. record { reply = n i; limits = same-limits s t x y d i }, same-columns s t x y d)
 
+-- of `open`
 pub open-outcome : (before p : ℕ) (r q : Reply) (a b : ℕ)
     → ((d : Domain) (out : List ℕ) → settled (replyNumber r) 0 (put-links d a) out ≡ after (put-links d before) (opens p) out)
     → ((d : Domain) (out : List ℕ) → settled (replyNumber q) 0 (put-links d b) out ≡ after (put-links d before) (opens p) out)
@@ -128,8 +140,10 @@ open-outcome before p r q a b e f =
     let z = e (fresh (limited 0 0 0)) [] ∙ sym (f (fresh (limited 0 0 0)) []) in
     (same-reply r q (ap (λ (w : Settled Domain). w .reply) z), ap (λ (w : Settled Domain). w .tables .links) z)
 
+-- of `audience`
 pub audience-outcome : (cs : Channels) (c r q : ℕ) → r ≡ audience cs c → q ≡ audience cs c → r ≡ q
 audience-outcome cs c r q e f = e ∙ sym f
 
+-- of `in_use`
 pub in-use-outcome : (ids : List ℕ) (r q : ℕ) → r ≡ used ids → q ≡ used ids → r ≡ q
 in-use-outcome ids r q e f = e ∙ sym f

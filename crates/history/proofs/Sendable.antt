@@ -38,6 +38,7 @@ Comes-legible (hears p m) = Legible m
 module _ (d : Domain) (s : Sound d) where
   -- ---- a request, by its message; `new` is the id of a new user or channel
   module _ (new : ℕ) (fresh-id : User new) where
+    -- each message; those that may not go up are ignored
     act-told : (p : ℕ) (m : Message) → formed m ≡ true → Told (act new d p m)
     unfolding act
     act-told p (EDrq h i) f = tt

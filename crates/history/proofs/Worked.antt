@@ -9,6 +9,7 @@ use Rattle.history.specs.Recorded.{read-call, size, is-record, inside, c
 use Rattle.history.specs.Served.{event, tables, notes, served, serves, started}
 use Rattle.history.specs.Example.{attaching, grabbing, room, turns, end, held-notes, all-notes}
 
+-- the octets sent are those of document 01
 pub as-noted : notes end ≡ all-notes
 unfolding opened number-in read-as understood turned after begun event tables notes served serves started attaching grabbing room turns end held-notes all-notes
 as-noted = refl
@@ -18,6 +19,7 @@ pub grabbed : _≡_ {A = Option ℕ × Gain} (home (read held-notes) 1001, gain 
 unfolding opened read-as read-call size is-record inside carried read-some read-records read-note read attaching grabbing held-notes
 grabbed = refl
 
+-- and then nothing
 pub lost : _≡_ {A = Option ℕ × Gain} (home (read all-notes) 1001, gain (read all-notes) 1 1001) (none, nothing)
 unfolding opened read-as read-call size is-record inside carried read-some read-records read-note read attaching grabbing held-notes all-notes
 lost = refl

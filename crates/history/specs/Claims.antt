@@ -42,6 +42,7 @@ module _ (r : Run) where
       → noted r (message p os, room) .reply ≡ 0
       → told (read-note (noted r (message p os, room))) full u k ≡ (not (busy (past r) k) && leb tokens (count (past r)))
 
+  -- all four
   abbrev pub Claims : (tokens : ℕ) → Type 0
   Claims tokens = same-holders × only-holder × counted tokens × told-full tokens TGrq × told-full tokens TIrq
 
@@ -56,5 +57,6 @@ module _ (channels users tokens : ℕ) (before : Domain) (ts : List Turn) where
       (d : Domain) → _≡_ {A = ℕ × Domain} (0, d) (begun channels users tokens before) → All-bytewise ts
       → (r : Run) → Calls (run d []) ts r → Claims r tokens
 
+-- of every start that is answered 0
 abbrev pub demand-3 : Type 0
 demand-3 = (channels users tokens : ℕ) (before : Domain) (ts : List Turn) → of-runs channels users tokens before ts × of-calls channels users tokens before ts

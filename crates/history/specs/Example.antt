@@ -7,18 +7,23 @@ use Rattle.provider.specs.Provider.{limited}
 use Rattle.history.specs.Recorded.{opening, losing, message, Note, note}
 use Rattle.history.specs.Served.{Turn, Run, serves, started}
 
+-- AUrq
 unfoldable pub attaching : List ℕ
 attaching = 0x28 ∷ []
 
+-- TGrq, user 1001, token 1
 unfoldable pub grabbing : List ℕ
 grabbing = 0x74 ∷ 0 ∷ 0 ∷ 0 ∷ 0 ∷ []
 
+-- what stood in each room
 unfoldable pub room : List ℕ
 room = replicate 40 0x28
 
+-- the calls
 unfoldable pub turns : List Turn
 turns = (opening 2, room) ∷ (message 2 attaching, room) ∷ (message 2 grabbing, room) ∷ (losing 2, room) ∷ []
 
+-- from limits 128, 64, 64
 unfoldable pub end : Run
 end = serves (started 128 64 64 (fresh (limited 0 0 0))) turns
 
@@ -30,5 +35,6 @@ held-notes =
     ∷ note (opening 2) 0 []
     ∷ []
 
+-- and with the loss
 unfoldable pub all-notes : List Note
 all-notes = note (losing 2) 0 [] ∷ held-notes

@@ -23,6 +23,7 @@ pub record Note : Type 0 where
   pub reply : ℕ
   pub sent : List ℕ
 
+-- a note of these
 abbrev pub note : Call → ℕ → List ℕ → Note
 note c n os = record { call = c; reply = n; sent = os }
 

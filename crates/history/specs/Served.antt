@@ -27,6 +27,7 @@ Bytewise (opening p) = Unit {0}
 Bytewise (losing p) = Unit {0}
 Bytewise (message p os) = Bytes os
 
+-- of every turn
 abbrev pub All-bytewise : List Turn → Type 0
 All-bytewise [] = Unit {0}
 All-bytewise (t ∷ ts) = Bytewise (t .0) × All-bytewise ts
@@ -35,9 +36,11 @@ All-bytewise (t ∷ ts) = Bytewise (t .0) × All-bytewise ts
 pub data Run : Type 0 where
   run : Domain → List Note → Run
 
+-- its tables
 unfoldable pub tables : Run → Domain
 tables (run d ns) = d
 
+-- its notes
 unfoldable pub notes : Run → List Note
 notes (run d ns) = ns
 
@@ -55,6 +58,7 @@ noted r t = noting (t .0) (left r t)
 unfoldable pub served : Run → Turn → Run
 served r t = run (left r t .tables) (noted r t ∷ notes r)
 
+-- one turn after another
 unfoldable pub serves : Run → List Turn → Run
 serves r [] = r
 serves r (t ∷ ts) = serves (served r t) ts
