@@ -24,7 +24,7 @@ use Rattle.history.specs.Served.{event, Bytewise}
 use Rattle.history.proofs.Sendable.{Legible, Comes-legible}
 
 -- whatever is said of refusals and of what is heard
-understood-by : (os : List ℕ) (P : (Reading → Type 0)) → ((n : ℕ) → P (refuses n os)) → ((m : Message) → heard os ≡ ok m → P (reads m)) → P (understood os)
+pub understood-by : (os : List ℕ) (P : (Reading → Type 0)) → ((n : ℕ) → P (refuses n os)) → ((m : Message) → heard os ≡ ok m → P (reads m)) → P (understood os)
 unfolding understood read-as
 understood-by os P f g =
     away (not (sized os)) 4 _ (away (ltb 42 (number-in os)) 5 _ (away (not (may-go-up (number-in os))) 6 _ (away (not (is-served (number-in os))) 7 _ (go (heard os) refl))))

@@ -7,7 +7,9 @@ pub mod Sendable
 pub mod Alike
 pub mod AsHeard
 pub mod Follows
+pub mod Runs
 pub mod Called
 pub mod Demand
+pub mod Answering
 pub mod OneOutcome
 pub mod Worked

@@ -1,4 +1,5 @@
 pub mod Recorded
 pub mod Served
 pub mod Claims
+pub mod Always
 pub mod Example
