@@ -88,7 +88,8 @@ gain-alike (a ∷ g) [] s k u = absurd s
 gain-alike (a ∷ g) (b ∷ h) s k u =
     let l = s .0 in
     let at = home h u in
-    rw (told-alike l grabs u k, told-alike l inhibits u k, told-alike l yields u k, home-alike g h (s .1) u, said-alike l at accepts u k, leaves-alike l at u, offer-alike g h (s .1) k u, gain-alike g h (s .1) k u) refl
+    rw (told-alike l grabs u k, told-alike l inhibits u k, told-alike l yields u k, home-alike g h (s .1) u)
+    (rw (said-alike l at accepts u k, leaves-alike l at u, offer-alike g h (s .1) k u, gain-alike g h (s .1) k u) refl)
 
 module _ (g h : History) (s : Alike g h) where
   -- whether a token has a holder or an open offer

@@ -42,5 +42,6 @@ module _ (ns : List Note) (p : ℕ) where
     message-call os h = then-calls a h no-more
 
 -- what is noted of the next call is fixed by its promise
-pub call-noted : (r : Run) (t : Turn) (a : Answer) (e : Domain) (behind : List ℕ) → answered a e behind ≡ after (tables r) (event (t .0)) (t .1) → noting (t .0) (answered a e behind) ≡ noted r t
+pub call-noted : (r : Run) (t : Turn) (a : Answer) (e : Domain) (behind : List ℕ) → answered a e behind ≡ after (tables r) (event (t .0)) (t .1)
+    → noting (t .0) (answered a e behind) ≡ noted r t
 call-noted r t a e behind h = ap (noting (t .0)) h

@@ -54,7 +54,10 @@ same-head x e = ap (λ (l : List ℕ). x ∷ l) e
 
 -- of channels
 channel-columns : (rs cs gs ms : List ℕ) → length cs ≡ length rs → length gs ≡ length rs → length ms ≡ length rs
-    → (map (λ ch. ch .role) (channel-cells rs cs gs ms) ≡ rs) × (map (λ ch. ch .chair) (channel-cells rs cs gs ms) ≡ cs) × (map (λ ch. ch .guests) (channel-cells rs cs gs ms) ≡ gs) × (map (λ ch. ch .marks) (channel-cells rs cs gs ms) ≡ ms)
+    → (map (λ ch. ch .role) (channel-cells rs cs gs ms) ≡ rs)
+    × (map (λ ch. ch .chair) (channel-cells rs cs gs ms) ≡ cs)
+    × (map (λ ch. ch .guests) (channel-cells rs cs gs ms) ≡ gs)
+    × (map (λ ch. ch .marks) (channel-cells rs cs gs ms) ≡ ms)
 unfolding channel-cells
 channel-columns [] cs gs ms a b c = (refl, none-left cs a, none-left gs b, none-left ms c)
 channel-columns (r ∷ rs) [] gs ms a b c = absurd (omega arith)

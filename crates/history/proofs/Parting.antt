@@ -120,4 +120,6 @@ module _ (d : Domain) (s : Sound d) where
   -- DPum, RJum, loss
   pub close-told : (p : ℕ) → Told (close d p)
   unfolding close
-  close-told p = leave-told _ 0 (those-on (d .users) p (inOrder (d .users .ids))) (omega arith) (those-users d s p (inOrder (d .users .ids)) (omega (arith, in-order-length (d .users .ids), s .users-are .ids-size)))
+  close-told p =
+      leave-told _ 0 (those-on (d .users) p (inOrder (d .users .ids))) (omega arith)
+      (those-users d s p (inOrder (d .users .ids)) (omega (arith, in-order-length (d .users .ids), s .users-are .ids-size)))

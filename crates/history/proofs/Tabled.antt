@@ -1,12 +1,12 @@
 -- What a request sends that names users by their places is read back: sound tables have ids in their ranges. Assumes nothing.
 use mathlib.Core.Path.{_≡_, refl}
-use mathlib.Core.Bool.{true, false, false≢true}
+use mathlib.Core.Bool.{Bool, true, false≢true}
 use mathlib.Core.List.{List}
 use Prim.Native.Nat.{ℕ, _≤_}
 use native.Mathlib.Omega.{arith}
 use lib.Dec.{eqb}
 use lib.ListN.{length}
-use Rattle.places.specs.Sets.{if_then_else_, null, each, below, once, has, links}
+use Rattle.places.specs.Sets.{if_then_else_, keep, null, each, below, once, links}
 use Rattle.places.specs.Places.{Place, At, Nowhere, find, found}
 use Rattle.places.proofs.Order.{keep-le}
 use Rattle.places.proofs.Rows.{find-holds}
@@ -44,7 +44,8 @@ module _ (d : Domain) (s : Sound d) where
   unfolding attached found
   attached-user q u h = go (find (d .users .ids) u) refl h
     where
-      go : (w : Place) → find (d .users .ids) u ≡ w → found (elim w as (λ (_ : Place). Place) [ At i ↦ if eqb (link (d .users) i) q then At i else Nowhere | Nowhere ↦ Nowhere ]) ≡ true → User u
+      go : (w : Place) → find (d .users .ids) u ≡ w
+          → found (elim w as (λ (_ : Place). Place) [ At i ↦ if eqb (link (d .users) i) q then At i else Nowhere | Nowhere ↦ Nowhere ]) ≡ true → User u
       go (At i) e t = found-user u i e
       go Nowhere e t = absurd (false≢true t)
 
@@ -60,19 +61,23 @@ module _ (d : Domain) (s : Sound d) where
   own-told ids say h r = all-each _ (λ q. all-either (null (those-on (d .users) q ids)) _ _ tt (r (those-on (d .users) q ids) (those-users q ids h), tt)) (below links)
 
   module _ (p u c : ℕ) (ids : List ℕ) (few : length ids ≤ 64) (chan : User c) where
+    -- of listed ids no more are left
+    kept-few : (f : (ℕ → Bool)) → length (keep f (once ids)) ≤ 64
+    kept-few f = omega (arith, keep-le f (once ids), once-le ids)
+
     -- CArq: CAin
     pub admit-told : User u → Told (admit (d .users) (d .channels) p u c ids)
     unfolding admit attached-of
     admit-told user = manages-told (d .users) (d .channels) p u c _ λ j m adm.
         told-either (null (attached-of (d .users) ids)) _ _ tt
-        (own-told (attached-of (d .users) ids) (CAin u c) (omega (arith, keep-le (λ v. found (find (d .users .ids) v)) (once ids), once-le ids)) (λ vs l. CAin-readable vs l u c user chan))
+        (own-told (attached-of (d .users) ids) (CAin u c) (kept-few _) (λ vs l. CAin-readable vs l u c user chan))
 
     -- CErq: CEin
     pub expel-told : Told (expel (d .users) (d .channels) p u c ids)
     unfolding expel admitted-of
     expel-told = manages-told (d .users) (d .channels) p u c _ λ j m adm.
         told-either (null (admitted-of (d .users) adm ids)) _ _ tt
-        (own-told (admitted-of (d .users) adm ids) (CEin c) (omega (arith, keep-le (λ v. elim (find (d .users .ids) v) [ At i ↦ has adm i | Nowhere ↦ false ]) (once ids), once-le ids)) (λ vs l. CEin-readable vs l c chan))
+        (own-told (admitted-of (d .users) adm ids) (CEin c) (kept-few _) (λ vs l. CEin-readable vs l c chan))
 
   -- the giver of an offer that is answered sits at a place
   informed-told : (n k : ℕ) → n ≤ 15 → Token k → (h x : Holding) → Held (d .users) h → Readables (informed (d .users) n k h x)
