@@ -138,7 +138,7 @@ firsts-le before (x ∷ xs) = go (member x before) (firsts-le (x ∷ before) xs)
     go true h = omega arith
     go false h = omega arith
 
-once-le : (ids : List ℕ) → length (once ids) ≤ length ids
+pub once-le : (ids : List ℕ) → length (once ids) ≤ length ids
 unfolding once
 once-le ids = firsts-le [] ids
 

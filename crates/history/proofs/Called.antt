@@ -1,0 +1,38 @@
+-- What the public functions did, one call after another, is a run; and each one's promise is a call. Assumes nothing.
+use mathlib.Core.Path.{_≡_, refl, ap, _∙_}
+use mathlib.Core.List.{List, [], _∷_}
+use Prim.Native.Nat.{ℕ}
+use Rattle.domain.specs.declared.answer.Answer.{Answer}
+use Rattle.domain.specs.declared.numbers.Reply.{Reply}
+use Rattle.domain.specs.Numbers.{replyNumber}
+use Rattle.domain.specs.Tables.{Domain, put-links}
+use Rattle.domain.specs.Effects.{Settled, settled, answered}
+use Rattle.domain.specs.Events.{opens, loses, hears}
+use Rattle.provider.specs.Provider.{understood, after}
+use Rattle.history.specs.Recorded.{opening, losing, message, Note, note}
+use Rattle.history.specs.Served.{Turn, event, Run, run, tables, notes, noting, served, serves, Calls, no-more, then-calls}
+
+pub calls-run : {r : Run} {ts : List Turn} {q : Run} → Calls r ts q → q ≡ serves r ts
+unfolding serves served tables notes
+calls-run no-more = refl
+calls-run (then-calls {ns = ns} {c = c} {ts = ts} a h rest) =
+    calls-run rest ∙ ap (λ (s : Settled Domain). serves (run (s .tables) (noting c s ∷ ns)) ts) h
+
+-- `open`, `lose` and `message`, by what each promises
+module _ (ns : List Note) (p : ℕ) where
+  pub open-call : (d : Domain) (links left : ℕ) (room : List ℕ) (r : Reply)
+      → ((d : Domain) (out : List ℕ) → settled (replyNumber r) 0 (put-links d left) out ≡ after (put-links d links) (opens p) out)
+      → Calls (run (put-links d links) ns) ((opening p, room) ∷ []) (run (put-links d left) (note (opening p) (replyNumber r) [] ∷ ns))
+  unfolding event
+  open-call d links left room r h = then-calls {behind = room} (record { reply = r; sent = 0 }) (h d room) no-more
+
+  module _ (d e : Domain) (room behind : List ℕ) (a : Answer) where
+    pub lose-call : answered a e behind ≡ after d (loses p) room
+        → Calls (run d ns) ((losing p, room) ∷ []) (run e (noting (losing p) (answered a e behind) ∷ ns))
+    unfolding event
+    lose-call h = then-calls a h no-more
+
+    pub message-call : (os : List ℕ) → answered a e behind ≡ after d (hears p (understood os)) room
+        → Calls (run d ns) ((message p os, room) ∷ []) (run e (noting (message p os) (answered a e behind) ∷ ns))
+    unfolding event
+    message-call os h = then-calls a h no-more

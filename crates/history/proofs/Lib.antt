@@ -1,0 +1,11 @@
+pub mod ReadBack
+pub mod Readables
+pub mod Told
+pub mod Sendable
+pub mod Alike
+pub mod AsHeard
+pub mod Follows
+pub mod Called
+pub mod Demand
+pub mod OneOutcome
+pub mod Worked

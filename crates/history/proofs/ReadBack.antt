@@ -1,0 +1,80 @@
+-- The records sent are read back from their octets. Assumes nothing.
+use mathlib.Core.Path.{_≡_, refl, ap, _∙_}
+use mathlib.Core.Bool.{true}
+use mathlib.Core.List.{List, [], _∷_, _++_}
+use Prim.Native.Nat.{ℕ, zero, suc, _+_, _-_, _≤_, zero-le}
+use native.Mathlib.Omega.{arith}
+use borrow.Author.Tests.{le-leb}
+use lib.ListN.{length, take, drop, length-append}
+use lib.Seq.{take-append-seam, drop-append-seam}
+use Rattle.messages.specs.Limits.{message-limit}
+use Rattle.messages.specs.Codec.{ok}
+use Rattle.messages.specs.Named.{Message, formed, heard}
+use Rattle.messages.proofs.NamedLaws.{sizeOf, formed-sent, sent-heard}
+use Rattle.records.proofs.Laying.{framed-length}
+use Rattle.records.specs.Records.{Sent, to, wire, framed, octets, records}
+use Rattle.history.specs.Recorded.{size, is-record, inside, carried, read-some, read-records}
+
+-- a message that the codec writes: fields in range, and not too long
+pub record Readable (m : Message) : Type 0 where
+  pub ranged : formed m ≡ true
+  pub few : sizeOf m ≤ message-limit
+
+abbrev pub Readables : List Sent → Type 0
+Readables [] = Unit {0}
+Readables (to q m ∷ rs) = Readable m × Readables rs
+
+wire-heard : (m : Message) → Readable m → heard (wire m) ≡ ok m
+unfolding wire
+wire-heard m r = sent-heard m (wire m) (formed-sent m (r .ranged) (r .few))
+
+-- ---- a record from the start of octets
+module _ (w : List ℕ) (q : ℕ) (rest : List ℕ) where
+  framed-size : size (framed w q ++ rest) ≡ length w + 2
+  unfolding size framed
+  framed-size = omega arith
+
+  framed-is : is-record (framed w q ++ rest) ≡ true
+  unfolding is-record framed
+  framed-is =
+      let there = le-leb (2 + (length w + 2)) (length (framed w q ++ rest)) (omega (arith, length-append w rest)) in
+      rw (framed-size, le-leb 2 (length w + 2) (omega arith), there) refl
+
+  framed-inside : inside (framed w q ++ rest) ≡ w
+  unfolding inside framed
+  framed-inside =
+      let shown : size (framed w q ++ rest) - 2 ≡ length w = omega (arith, framed-size) in
+      ap (λ (n : ℕ). take n (drop 4 (framed w q ++ rest))) shown ∙ take-append-seam w rest
+
+  framed-behind : drop (2 + size (framed w q ++ rest)) (framed w q ++ rest) ≡ rest
+  unfolding framed
+  framed-behind =
+      let past : 2 + size (framed w q ++ rest) ≡ suc (suc (suc (suc (length w)))) = omega (arith, framed-size) in
+      ap (λ (n : ℕ). drop n (framed w q ++ rest)) past ∙ drop-append-seam w rest
+
+  framed-read : (n : ℕ) → read-some (suc n) (framed w q ++ rest) ≡ carried q (heard w) ++ read-some n rest
+  unfolding read-some framed
+  framed-read n = rw (framed-is, framed-inside, framed-behind) refl
+
+-- ---- all of them
+read-none : (n : ℕ) → read-some n [] ≡ []
+unfolding read-some is-record size
+read-none zero = refl
+read-none (suc n) = refl
+
+read-all : (rs : List Sent) (n : ℕ) → length rs ≤ n → Readables rs → read-some n (records rs) ≡ rs
+unfolding records octets carried
+read-all [] n h r = read-none n
+read-all (to q m ∷ rs) zero h r = absurd (omega arith)
+read-all (to q m ∷ rs) (suc n) h r =
+    framed-read (wire m) q (records rs) n
+    ∙ rw (wire-heard m (r .0), read-all rs n (omega arith) (r .1)) refl
+
+records-more : (rs : List Sent) → length rs ≤ length (records rs)
+unfolding records octets
+records-more [] = zero-le
+records-more (to q m ∷ rs) = omega (arith, records-more rs, length-append (framed (wire m) q) (records rs), framed-length (wire m) q)
+
+pub read-back : (rs : List Sent) → Readables rs → read-records (records rs) ≡ rs
+unfolding read-records
+read-back rs r = read-all rs (length (records rs)) (records-more rs) r

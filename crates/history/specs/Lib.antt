@@ -1,0 +1,4 @@
+pub mod Recorded
+pub mod Served
+pub mod Claims
+pub mod Example
