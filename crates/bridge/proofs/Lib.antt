@@ -1,1 +1,4 @@
+pub mod Fields
+pub mod Lending
+pub mod Showing
 pub mod Starting
