@@ -56,13 +56,6 @@ made-held d = λ i. record { channels = d .channels; users = d .users; tokens = 
 held-made : (x : Held) → held (made x) ≡ x
 held-made x = λ i. (x .0, (x .1 .0, (x .1 .1 .0, (x .1 .1 .1 .0, (map-id (x .1 .1 .1 .1 .0) i, (map-id (x .1 .1 .1 .1 .1 .0) i, (map-id (x .1 .1 .1 .1 .1 .1 .0) i, (map-id (x .1 .1 .1 .1 .1 .1 .1 .0) i, (map-id (x .1 .1 .1 .1 .1 .1 .1 .1 .0) i, (map-id (x .1 .1 .1 .1 .1 .1 .1 .1 .1 .0) i, (map-id (x .1 .1 .1 .1 .1 .1 .1 .1 .1 .1 .0) i, (map-id (x .1 .1 .1 .1 .1 .1 .1 .1 .1 .1 .1 .0) i, (map-id (x .1 .1 .1 .1 .1 .1 .1 .1 .1 .1 .1 .1 .0) i, (map-id (x .1 .1 .1 .1 .1 .1 .1 .1 .1 .1 .1 .1 .1 .0) i, tt))))))))))))))
 
--- the fields' values in front of others
-abbrev pub Front : Type 0 → Type 0
-Front X = ℕ × (ℕ × (ℕ × (ℕ × (List ℕ × (List ℕ × (List ℕ × (List ℕ × (List ℕ × (List ℕ × (List ℕ × (List ℕ × (List ℕ × (List ℕ × X)))))))))))))
-
-abbrev pub front : {X : Type 0} → Front X → Held
-front x = (x .0, (x .1 .0, (x .1 .1 .0, (x .1 .1 .1 .0, (x .1 .1 .1 .1 .0, (x .1 .1 .1 .1 .1 .0, (x .1 .1 .1 .1 .1 .1 .0, (x .1 .1 .1 .1 .1 .1 .1 .0, (x .1 .1 .1 .1 .1 .1 .1 .1 .0, (x .1 .1 .1 .1 .1 .1 .1 .1 .1 .0, (x .1 .1 .1 .1 .1 .1 .1 .1 .1 .1 .0, (x .1 .1 .1 .1 .1 .1 .1 .1 .1 .1 .1 .0, (x .1 .1 .1 .1 .1 .1 .1 .1 .1 .1 .1 .1 .0, (x .1 .1 .1 .1 .1 .1 .1 .1 .1 .1 .1 .1 .1 .0, tt))))))))))))))
-
 module _ {M : Type 1} (𝓤 : URA M) (H : Heap 𝓤) (A : Atoms 𝓤) (W : Given 𝓤 H A) (κ : Lft) (b o : ℕ) where
   abbrev ⟦_⟧ : Fml → SProp 𝓤
   ⟦ P ⟧ = sem 𝓤 H A P

@@ -23,7 +23,7 @@ module _ (κ : Lft) (b o : ℕ) (q : Share) where
   -- what the references to the fields own
   abbrev pub shared : (ms : List Member) (e : ℕ) → Denots (rowsOf ms) → Names ms → Fml
   shared [] e a γs = ftrue
-  shared (m ∷ ms) e a γs = fsep (ShrRef (named 0) κ (rowOf m) .own (at κ b o m e (a .0) (γs .0)) (vptr b (o + begins m e) ∷ [])) (shared ms (ends m e) (a .1) (γs .1))
+  shared (m ∷ ms) e a γs = fsep (ShrRef (named 0) κ (rowOf m) .own (at b o m e (a .0) (γs .0)) (vptr b (o + begins m e) ∷ [])) (shared ms (ends m e) (a .1) (γs .1))
 
   -- what the lender keeps
   abbrev pub kept : (ms : List Member) (e : ℕ) → Denots (rowsOf ms) → Fml
@@ -39,7 +39,7 @@ module _ (κ : Lft) (b o : ℕ) (q : Share) where
     lends [] e a = qed W (‵ ftrue ∷ []) ∵ updating ! $ at-once ! $ show ! (λ (γs : Names []). sep 𝓤 ⟦ ftrue ⟧ ⟦ ftrue ⟧) tt $ nothing ! $ done !
     lends (m ∷ ms) e a =
         qed W (‵ (partsAt q (m ∷ ms) e a b o) ∷ []) ∵ updating ! $ fsplit ! $
-        use1 W (later (some (λ (δ : GName). ‵ (ShrRef (named 0) κ (rowOf m) .own (at κ b o m e (a .0) δ) (vptr b (o + begins m e) ∷ [])) ⊛ ‵ (flent κ (partAt (rowOf m) q (a .0) b (o + begins m e))))))
+        use1 W (later (some (λ (δ : GName). ‵ (ShrRef (named 0) κ (rowOf m) .own (at b o m e (a .0) δ) (vptr b (o + begins m e) ∷ [])) ⊛ ‵ (flent κ (partAt (rowOf m) q (a .0) b (o + begins m e))))))
         (lends-shr 𝓤 H A W (rowOf m) (named 0) κ q (a .0) b (o + begins m e)) $ await ! tt $ pick ! (λ δ. split ! $
         move ! (2 ∷ []) $ use1 W (later (some (λ (γs : Names ms). ‵ (shared ms (ends m e) (a .1) γs) ⊛ ‵ (kept ms (ends m e) (a .1))))) (lends ms (ends m e) (a .1)) $ await ! tt $ pick ! (λ γs. split ! $
         at-once ! $ show ! (λ (γs′ : Names (m ∷ ms)). sep 𝓤 ⟦ shared (m ∷ ms) e a γs′ ⟧ ⟦ kept (m ∷ ms) e a ⟧) (δ, γs) $
