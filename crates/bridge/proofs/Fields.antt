@@ -9,15 +9,18 @@ use base.Logic.{SProp, ent, sep, ex, wand, wandE, allE}
 use base.Fml.{Lft, Share, Fml, fdead}
 use prog.Wp.{Heap}
 use ghost.Atoms.{Atoms, sem}
+use ghost.Rules.{Halves}
 use types.Kit.{Given, ‵, raw, some, later, _⊛_, _$_, _∵_, !, qed, move, use1, use2, use3, split, pick, rewrite, await, updating, now as at-once, show, done}
 use denote.RattleType.{RattleType, Denots}
-use denote.Memory.{partAt, partOf}
+use denote.Laws.{Is, shows as has-shape}
+use denote.Memory.{partAt, partOf, part-halves}
 use denote.Builtin.{u8, u16, u64}
 use denote.Array.{Array}
 use denote.Struct.Members.{Member, rowsOf, partsAt}
 use denote.Struct.Parts.{PartsBack, shapeOf, struct-parts}
 use denote.Struct.Struct.{Struct}
 use denote.Struct.Laws.{lawfuls}
+use denote.Struct.Laws as LL
 use Rattle.bridge.specs.declared.Domain.{Domain}
 use Rattle.bridge.proofs.Domain as T
 use Rattle.bridge.proofs.Domain.Laws as T′
@@ -97,21 +100,25 @@ module _ {M : Type 1} (𝓤 : URA M) (H : Heap 𝓤) (A : Atoms 𝓤) (W : Given
       rewrite ! 0 (λ (y : Held). ‵ (partsAt fullShare fields 0 y b o)) (sym (held-made x)) refl $
       move ! (2 ∷ 0 ∷ []) $ use2 W (‵ (partAt R fullShare (made x) b o)) (together fullShare (made x)) $ at-once ! $ done !
 
-  -- ---- to be read: a share q
-  abbrev pub shared : Share → Domain → Names → Fml
-  shared q d γs = S.shared κ b o q fields 0 (held d) γs
+  -- ---- to be read, at a share q: the references to the chosen fields, then F
+  abbrev pub shared : Share → S.Chosen → Domain → Fml → Names → Fml
+  shared q c d F γs = S.sharedThen κ b o q c fields 0 (held d) γs F
 
-  abbrev pub Held-back : Share → Domain → SProp 𝓤
-  Held-back q d = sep 𝓤 ⟦ S.kept κ b o q fields 0 (held d) ⟧ (Back q)
+  abbrev pub Seen : Share → Domain → SProp 𝓤
+  Seen q d = sep 𝓤 ⟦ S.kept κ b o q fields 0 (held d) ⟧ (Back q)
 
-  pub reads : (q : Share) (d : Domain) → ent 𝓤 ⟦ partAt R q d b o ⟧ (H .⇛ (ex 𝓤 (λ (γs : Names). sep 𝓤 ⟦ shared q d γs ⟧ (Held-back q d))))
-  reads q d =
-      qed W (‵ (partAt R q d b o) ∷ []) ∵ updating ! $ use1 W (‵ (partsAt q fields 0 (held d) b o) ⊛ raw (Back q)) (apart q d) $ split ! $
-      use1 W (later (some (λ (γs : Names). ‵ (shared q d γs) ⊛ ‵ (S.kept κ b o q fields 0 (held d))))) (S.lends κ b o q 𝓤 H A W fields 0 (held d)) $ await ! tt $ pick ! (λ γs. split ! $
-      at-once ! $ show ! (λ (γs : Names). sep 𝓤 ⟦ shared q d γs ⟧ (Held-back q d)) γs $ done !)
+  pub shows : (q : Share) (c : S.Chosen) (d : Domain) (F : Fml) → ent 𝓤 (sep 𝓤 ⟦ partAt R q d b o ⟧ ⟦ F ⟧) (H .⇛ (ex 𝓤 (λ (γs : Names). sep 𝓤 ⟦ shared q c d F γs ⟧ (Seen q d))))
+  shows q c d F =
+      qed W (‵ (partAt R q d b o) ∷ ‵ F ∷ []) ∵ updating ! $ use1 W (‵ (partsAt q fields 0 (held d) b o) ⊛ raw (Back q)) (apart q d) $ split ! $
+      move ! (0 ∷ 2 ∷ []) $ use2 W (later (some (λ (γs : Names). ‵ (shared q c d F γs) ⊛ ‵ (S.kept κ b o q fields 0 (held d))))) (S.lends κ b o q 𝓤 H A W c fields 0 (held d) F) $ await ! tt $ pick ! (λ γs. split ! $
+      at-once ! $ show ! (λ (γs : Names). sep 𝓤 ⟦ shared q c d F γs ⟧ (Seen q d)) γs $ done !)
 
-  pub ends : (q : Share) (d : Domain) → ent 𝓤 (sep 𝓤 (A .dead κ) (Held-back q d)) (H .⇛ ⟦ partAt R q d b o ⟧)
-  ends q d =
+  pub shuts : (q : Share) (d : Domain) → ent 𝓤 (sep 𝓤 (A .dead κ) (Seen q d)) (H .⇛ ⟦ partAt R q d b o ⟧)
+  shuts q d =
       qed W (‵ (fdead κ) ∷ (‵ (S.kept κ b o q fields 0 (held d)) ⊛ raw (Back q)) ∷ []) ∵ updating ! $ move ! (1 ∷ []) $ split ! $
       move ! (2 ∷ 0 ∷ []) $ use2 W (later (‵ (partsAt q fields 0 (held d) b o))) (S.backs κ b o q 𝓤 H A W fields 0 (held d)) $ await ! tt $
       move ! (1 ∷ 0 ∷ []) $ use2 W (‵ (partAt R q d b o)) (together q d) $ at-once ! $ done !
+
+-- a share of the struct in memory can be cut in two, and joined
+pub halves : {M : Type 1} (𝓤 : URA M) (H : Heap 𝓤) (A : Atoms 𝓤) → Given 𝓤 H A → (d : Domain) (b o : ℕ) → Halves 𝓤 H A (λ q. partAt R q d b o)
+halves 𝓤 H A W d b o = part-halves 𝓤 H A W R (Is R) (has-shape 𝓤 H A R) (LL.vals T.the-type T′.the-laws) (LL.tells T.the-type T′.the-laws) (LL.copy T.the-type T′.the-copy 𝓤 H A W) d b o
