@@ -1,0 +1,5 @@
+pub mod Fields
+pub mod Giving
+pub mod Lending
+pub mod Showing
+pub mod Starting

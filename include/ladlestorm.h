@@ -1,0 +1,100 @@
+/* The top provider of one T.125 (MCS) domain, for a conference bridge written in C. Link target/staticlib/libbridge.a (x86-64 Linux).
+
+   The bridge keeps the domain in a struct of its own: the library has no memory, takes no lock, calls nothing and uses little stack. A struct
+   of any contents is taken, and each function promises its answer, the struct and the room for every input. One thread at a time
+   may use a struct; two domains are two structs.
+
+   No pointer may be NULL, also with length 0. The struct, the octets and the room must not overlap. */
+#ifndef LADLESTORM_H
+#define LADLESTORM_H
+
+#include <stddef.h>
+#include <stdint.h>
+
+/* Limits, and a room for answers that never meets LADLESTORM_NO_ROOM. */
+#define LADLESTORM_CONNECTIONS 16 /* connections are 0 to 15 */
+#define LADLESTORM_CHANNELS 128
+#define LADLESTORM_USERS 64
+#define LADLESTORM_TOKENS 64
+#define LADLESTORM_MESSAGE 1024 /* octets of a message */
+#define LADLESTORM_ROOM 17200
+
+/* The replies. Replies 1 to 10 leave the domain as it was. */
+enum ladlestorm_reply {
+    LADLESTORM_DONE = 0,
+    LADLESTORM_IGNORED = 1,         /* ignored, as T.125 says */
+    LADLESTORM_NOT_OPEN = 2,        /* connection above 15; loss of or message on one that is not open */
+    LADLESTORM_OPEN_ALREADY = 3,    /* open: it is open */
+    LADLESTORM_WRONG_LENGTH = 4,    /* a message of 0 octets or above 1,024 */
+    LADLESTORM_BAD_ENCODING = 5,    /* RJum, diagnostic 4, is sent to the connection */
+    LADLESTORM_MAY_NOT_GO_UP = 6,   /* RJum, diagnostic 2, is sent to the connection */
+    LADLESTORM_NOT_SERVED = 7,      /* MCrq, MTrq, SDrq, USrq */
+    LADLESTORM_TOO_LONG = 8,        /* a list above 64 ids, a number above 4 octets, or a fragmented length */
+    LADLESTORM_NO_ROOM = 9,         /* the records to send exceed the room, which is untouched */
+    LADLESTORM_BAD_LIMIT = 10       /* start: a limit is out of range */
+};
+
+/* The domain. Id 0 marks a free place; what a place holds stands at the same index of the columns of its table. */
+struct ladlestorm_domain {
+    uint8_t channels, users, tokens; /* the limits */
+    uint16_t links;                  /* the open connections: bit p for connection p */
+    uint16_t names[64];              /* users: ids, and their connections */
+    uint8_t homes[64];
+    uint16_t ids[128];               /* channels: ids, kinds, managers' places, admitted users, joined connections */
+    uint8_t roles[128];
+    uint8_t chairs[128];
+    uint64_t guests[128];
+    uint16_t marks[128];
+    uint16_t keys[64];               /* tokens: ids, states, and who holds or is offered each */
+    uint8_t modes[64];
+    uint64_t values[64];
+};
+
+/* What an event is answered with: the reply, and how many octets of the room are records to send. */
+struct ladlestorm_answered {
+    uint32_t reply;
+    size_t sent;
+};
+
+_Static_assert(sizeof(struct ladlestorm_domain) == 2696, "the domain's size");
+_Static_assert(_Alignof(struct ladlestorm_domain) == 8, "the domain's alignment");
+_Static_assert(offsetof(struct ladlestorm_domain, links) == 4, "links");
+_Static_assert(offsetof(struct ladlestorm_domain, names) == 6, "names");
+_Static_assert(offsetof(struct ladlestorm_domain, homes) == 134, "homes");
+_Static_assert(offsetof(struct ladlestorm_domain, ids) == 198, "ids");
+_Static_assert(offsetof(struct ladlestorm_domain, roles) == 454, "roles");
+_Static_assert(offsetof(struct ladlestorm_domain, chairs) == 582, "chairs");
+_Static_assert(offsetof(struct ladlestorm_domain, guests) == 712, "guests");
+_Static_assert(offsetof(struct ladlestorm_domain, marks) == 1736, "marks");
+_Static_assert(offsetof(struct ladlestorm_domain, keys) == 1992, "keys");
+_Static_assert(offsetof(struct ladlestorm_domain, modes) == 2120, "modes");
+_Static_assert(offsetof(struct ladlestorm_domain, values) == 2184, "values");
+_Static_assert(sizeof(struct ladlestorm_answered) == 16, "the answer's size");
+_Static_assert(offsetof(struct ladlestorm_answered, sent) == 8, "sent");
+
+/* Makes the domain: no connection open, nothing in use. The limits are 1 to 128 channels, 1 to 64 users, 1 to 64 tokens; one out of range
+   gives LADLESTORM_BAD_LIMIT, and the struct stays as it is. Else LADLESTORM_DONE. */
+uint32_t ladlestorm_start(struct ladlestorm_domain *domain, uint32_t channels, uint32_t users, uint32_t tokens);
+
+/* Connection p opens: LADLESTORM_DONE, LADLESTORM_NOT_OPEN where p is above 15, LADLESTORM_OPEN_ALREADY. Nothing is sent. */
+uint32_t ladlestorm_open(struct ladlestorm_domain *domain, uint8_t p);
+
+/* Connection p is lost: its users leave together, and the others are told. LADLESTORM_DONE, LADLESTORM_NOT_OPEN or LADLESTORM_NO_ROOM.
+   The first `sent` octets of the room are the records to send; the octets behind them stay. A record: 2 octets of length (what follows),
+   version 1, connection, message; big-endian. */
+struct ladlestorm_answered ladlestorm_lose(struct ladlestorm_domain *domain, uint8_t p, uint8_t *room, size_t length);
+
+/* A message came on connection p: any octets. Every reply but LADLESTORM_OPEN_ALREADY and LADLESTORM_BAD_LIMIT can be given; the records as for
+   `ladlestorm_lose`. */
+struct ladlestorm_answered ladlestorm_message(
+    struct ladlestorm_domain *domain, uint8_t p, const uint8_t *octets, size_t octets_length, uint8_t *room, size_t length);
+
+/* The number of connections joined to channel c; 0 if it is not in use. */
+uint32_t ladlestorm_audience(const struct ladlestorm_domain *domain, uint16_t c);
+
+/* The users, the channels and the tokens in use. */
+size_t ladlestorm_users(const struct ladlestorm_domain *domain);
+size_t ladlestorm_channels(const struct ladlestorm_domain *domain);
+size_t ladlestorm_tokens(const struct ladlestorm_domain *domain);
+
+#endif
