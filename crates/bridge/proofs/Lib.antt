@@ -1,3 +1,4 @@
+pub mod Changing
 pub mod Fields
 pub mod Giving
 pub mod Lending
