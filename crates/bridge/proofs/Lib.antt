@@ -2,5 +2,6 @@ pub mod Changing
 pub mod Fields
 pub mod Giving
 pub mod Lending
+pub mod Reading
 pub mod Showing
 pub mod Starting
