@@ -20,9 +20,9 @@ use types.Run.{look, init, forget, stop, hop, fld, from, load, addr, and-then, n
 use sound.WpLaws.{FmC, fmOf, WpFn-mono}
 use denote.RattleType.{owns}
 use denote.Laws.{Is}
-use denote.Plain.{uint-vals, uint-tells, uint-lawful}
+use denote.Plain.{uint-vals, uint-tells}
 use denote.Builtin.{u8}
-use denote.Ref.{RefT, ptr-vals, mut-tells}
+use denote.Ref.{ptr-vals, mut-tells}
 use denote.Triple.Entry.{Args, Vals, onEntry}
 use denote.Triple.Spec.{Meets, tripleOf}
 use denote.Triple.Statement.{Contract, Triple}

@@ -1,3 +1,4 @@
+-- `columns::audience`: the provider's own equation.
 use borrow.Author.Needs.{needs}
 use Rattle.bridge.proofs.columns.audience.Statement.{statement}
 use Rattle.bridge.proofs.columns.audience.Tie as tie

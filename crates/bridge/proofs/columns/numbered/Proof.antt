@@ -1,3 +1,4 @@
+-- `columns::numbered`: the reply's number; the octets sent are as they were.
 use mathlib.Core.Path.{refl}
 use borrow.Author.Needs.{needs}
 use Rattle.bridge.proofs.columns.numbered.Statement.{statement}
