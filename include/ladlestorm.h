@@ -11,7 +11,7 @@
 #include <stddef.h>
 #include <stdint.h>
 
-/* Limits, and a room for answers that never meets LADLESTORM_NO_ROOM. */
+/* Limits, and a room for answers that never meets LADLESTORM_NO_ROOM in a domain that was started. */
 #define LADLESTORM_CONNECTIONS 16 /* connections are 0 to 15 */
 #define LADLESTORM_CHANNELS 128
 #define LADLESTORM_USERS 64

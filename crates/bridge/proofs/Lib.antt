@@ -2,6 +2,7 @@ pub mod Changing
 pub mod Fields
 pub mod Giving
 pub mod Lending
+pub mod OneStruct
 pub mod Reading
 pub mod Showing
 pub mod Starting
