@@ -1,6 +1,6 @@
 /* The top provider of one T.125 (MCS) domain, for a conference bridge written in C. Link target/staticlib/libbridge.a (x86-64 Linux).
 
-   The bridge keeps the domain in a struct of its own: the library has no memory, takes no lock, calls nothing and uses little stack. A struct
+   The bridge keeps the domain in a struct of its own: the library has no memory, takes no lock and calls only memcpy and memset. A struct
    of any contents is taken, and each function promises its answer, the struct and the room for every input. One thread at a time
    may use a struct; two domains are two structs.
 
@@ -11,7 +11,7 @@
 #include <stddef.h>
 #include <stdint.h>
 
-/* Limits, and a room for answers that never meets LADLESTORM_NO_ROOM. */
+/* Limits, and a room for answers that never meets LADLESTORM_NO_ROOM in a domain that was started. */
 #define LADLESTORM_CONNECTIONS 16 /* connections are 0 to 15 */
 #define LADLESTORM_CHANNELS 128
 #define LADLESTORM_USERS 64

@@ -1,13 +1,10 @@
+-- `columns::start`: done, the new limits are stored; refused, those before stay.
 use mathlib.Core.Path.{sym, _∙_}
 use mathlib.Core.Logic.{⊎-elim}
 use borrow.Author.Needs.{needs}
 use Rattle.bridge.proofs.Starting.{took, left}
 use Rattle.bridge.proofs.columns.start.Statement.{statement}
 use Rattle.bridge.proofs.columns.start.Tie as tie
-use Rattle.bridge.proofs.columns.start.Reads as reads
-use Rattle.bridge.proofs.columns.start.Lts as lts
-use Rattle.domain.proofs.numbers.reply_number.Reads as reply-number-reads
-use Rattle.provider.proofs.starting.start.Reads as start-reads
 
 start-requires : tie.Need-start-requires
 start-requires c κs = search needs
