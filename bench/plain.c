@@ -903,7 +903,7 @@ static inline void barrier(void *p) { __asm__ volatile("" : : "r"(p) : "memory")
 u32 plain_read_many(const octet *s, size n, u32 rounds)
 {
     u32 sum = 0;
-    struct message m;
+    struct message m = {0};
     while (rounds--) {
         if (plain_read(s, n, &m))
             return 0;
