@@ -7,33 +7,26 @@ ghost use lib.ListN.{length, getD, drop};
 ghost use Rattle.places.specs.Sets.{member as memberOf};
 ghost use Rattle.places.specs.Places.{first as firstIn, find as findIn, found, spare as spareIn, used as usedIn, next as nextIn, number, unused as unusedIn};
 
-// A place counts if it holds x.
-fn same(y: u16, x: u16) -> u16
-    ensures { λ r. ⌜ (r ≤ 1) × (r ≡ 0 → y ≡ x → ⊥) ⌝ }
-{
-    if y == x { 1 } else { 0 }
-}
-
-// How many of the two, four, eight places from i on hold x. They are looked at together: no branch stands between them.
-fn of_two(ids: &[u16], i: usize, x: u16) -> u16
+// One of the two, four, eight places from i on holds x. They are looked at together: no branch stands between them.
+fn of_two(ids: &[u16], i: usize, x: u16) -> bool
     requires { ⌜ i + 2 ≤ length (now ids) ⌝ }
-    ensures { λ r. ⌜ (r ≤ 2) × (r ≡ 0 → firstIn i x (drop i (now (ids .entry))) ≡ firstIn (i + 2) x (drop (i + 2) (now (ids .entry)))) ⌝ }
+    ensures { λ r. ⌜ (r ≡ false → firstIn i x (drop i (now (ids .entry))) ≡ firstIn (i + 2) x (drop (i + 2) (now (ids .entry)))) ⌝ }
 {
-    same(ids[i], x) + same(ids[i + 1], x)
+    (ids[i] == x) | (ids[i + 1] == x)
 }
 
-fn of_four(ids: &[u16], i: usize, x: u16) -> u16
+fn of_four(ids: &[u16], i: usize, x: u16) -> bool
     requires { ⌜ i + 4 ≤ length (now ids) ⌝ }
-    ensures { λ r. ⌜ (r ≤ 4) × (r ≡ 0 → firstIn i x (drop i (now (ids .entry))) ≡ firstIn (i + 4) x (drop (i + 4) (now (ids .entry)))) ⌝ }
+    ensures { λ r. ⌜ (r ≡ false → firstIn i x (drop i (now (ids .entry))) ≡ firstIn (i + 4) x (drop (i + 4) (now (ids .entry)))) ⌝ }
 {
-    of_two(ids, i, x) + of_two(ids, i + 2, x)
+    of_two(ids, i, x) | of_two(ids, i + 2, x)
 }
 
-fn of_eight(ids: &[u16], i: usize, x: u16) -> u16
+fn of_eight(ids: &[u16], i: usize, x: u16) -> bool
     requires { ⌜ i + 8 ≤ length (now ids) ⌝ }
-    ensures { λ r. ⌜ (r ≤ 8) × (r ≡ 0 → firstIn i x (drop i (now (ids .entry))) ≡ firstIn (i + 8) x (drop (i + 8) (now (ids .entry)))) ⌝ }
+    ensures { λ r. ⌜ (r ≡ false → firstIn i x (drop i (now (ids .entry))) ≡ firstIn (i + 8) x (drop (i + 8) (now (ids .entry)))) ⌝ }
 {
-    of_four(ids, i, x) + of_four(ids, i + 4, x)
+    of_four(ids, i, x) | of_four(ids, i + 4, x)
 }
 
 // A place that x does not stand before, found eight places at a time.
@@ -42,7 +35,7 @@ fn skipped(ids: &[u16], x: u16) -> usize
 {
     let mut i = 0;
     while 8 <= ids.len() - i {
-        if 0 < of_eight(ids, i, x) {
+        if of_eight(ids, i, x) {
             return i;
         }
         i += 8;

@@ -2,6 +2,7 @@
 use Prim.Native.Nat.{_+_}
 use mathlib.Core.Path.{_≡_, _∙_}
 use native.Mathlib.Omega.{arith}
+use Rattle.places.proofs.Bools.{or-parts}
 use borrow.Author.Needs.{needs}
 use Rattle.places.proofs.columns.of_eight.Statement.{statement}
 use Rattle.places.proofs.columns.of_eight.Tie as tie
@@ -15,17 +16,12 @@ add-of-four c = search needs
 of-four-requires-2 : tie.Need-of-four-requires-2
 of-four-requires-2 c κs = search needs
 
-add-result : tie.Need-add-result
-add-result c = search needs
-
 returns : tie.Need-returns
-returns c =
+returns c z =
     let i = c .before .before .before .args .i in
-    let e : i + 4 + 4 ≡ i + 8 = omega arith in (
-      omega (arith, c .of-four2 .ensures .0, c .before .of-four .ensures .0),
-      λ z. c .before .of-four .ensures .1 (omega arith) ∙ rw e at (c .of-four2 .ensures .1 (omega arith)),
-    )
+    let none = or-parts _ _ z in
+    let e : i + 4 + 4 ≡ i + 8 = omega arith in
+    c .before .of-four .ensures (none .0) ∙ rw e at (c .of-four2 .ensures (none .1))
 
 pub of-eight-spec : {M : Type 1} → statement M
-of-eight-spec =
-    tie.close (tie.spec of-four-requires add-of-four of-four-requires-2 add-result returns)
+of-eight-spec = tie.close (tie.spec of-four-requires add-of-four of-four-requires-2 returns)

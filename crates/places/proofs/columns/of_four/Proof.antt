@@ -2,6 +2,7 @@
 use Prim.Native.Nat.{_+_}
 use mathlib.Core.Path.{_≡_, _∙_}
 use native.Mathlib.Omega.{arith}
+use Rattle.places.proofs.Bools.{or-parts}
 use borrow.Author.Needs.{needs}
 use Rattle.places.proofs.columns.of_four.Statement.{statement}
 use Rattle.places.proofs.columns.of_four.Tie as tie
@@ -15,16 +16,12 @@ add-of-two c = search needs
 of-two-requires-2 : tie.Need-of-two-requires-2
 of-two-requires-2 c κs = search needs
 
-add-result : tie.Need-add-result
-add-result c = search needs
-
 returns : tie.Need-returns
-returns c =
+returns c z =
     let i = c .before .before .before .args .i in
-    let e : i + 2 + 2 ≡ i + 4 = omega arith in (
-      omega (arith, c .of-two2 .ensures .0, c .before .of-two .ensures .0),
-      λ z. c .before .of-two .ensures .1 (omega arith) ∙ rw e at (c .of-two2 .ensures .1 (omega arith)),
-    )
+    let none = or-parts _ _ z in
+    let e : i + 2 + 2 ≡ i + 4 = omega arith in
+    c .before .of-two .ensures (none .0) ∙ rw e at (c .of-two2 .ensures (none .1))
 
 pub of-four-spec : {M : Type 1} → statement M
-of-four-spec = tie.close (tie.spec of-two-requires add-of-two of-two-requires-2 add-result returns)
+of-four-spec = tie.close (tie.spec of-two-requires add-of-two of-two-requires-2 returns)
