@@ -232,11 +232,12 @@ fn seats_of(names: &[u16; 64], list: &[u16]) -> u64
     ensures { λ r. ⌜ ((homes : List ℕ) → r ≡ placesOf (users-of (now (names .entry)) homes) (now (list .entry))) ⌝ }
 {
     let ids = &names[..];
+    let free = places::columns::member(list, 0);
     let mut m: u64 = 0;
     let mut i: u8 = 0;
     while i < 64 {
         let j = i as usize;
-        m = seat_one(m, places::columns::member(list, ids[j]), i);
+        m = seat_one(m, places::columns::among(list, free, ids[j]), i);
         i += 1;
     }
     m

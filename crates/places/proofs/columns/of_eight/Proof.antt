@@ -19,8 +19,8 @@ of-four-requires-2 c κs = search needs
 returns : tie.Need-returns
 returns c z =
     let i = c .before .before .before .args .i in
-    let none = or-parts _ _ z in
     let e : i + 4 + 4 ≡ i + 8 = omega arith in
+    let none = or-parts _ _ z in
     c .before .of-four .ensures (none .0) ∙ rw e at (c .of-four2 .ensures (none .1))
 
 pub of-eight-spec : {M : Type 1} → statement M

@@ -19,8 +19,8 @@ of-two-requires-2 c κs = search needs
 returns : tie.Need-returns
 returns c z =
     let i = c .before .before .before .args .i in
-    let none = or-parts _ _ z in
     let e : i + 2 + 2 ≡ i + 4 = omega arith in
+    let none = or-parts _ _ z in
     c .before .of-two .ensures (none .0) ∙ rw e at (c .of-two2 .ensures (none .1))
 
 pub of-four-spec : {M : Type 1} → statement M
