@@ -1,21 +1,19 @@
+-- The one request of the two.
+use Rattle.domain.specs.Passing.{share-token}
+use Rattle.passing.specs.Taking.{taken-by, confirmed-by}
 use borrow.Author.Needs.{needs}
 use Rattle.passing.proofs.inhibit.Statement.{statement}
 use Rattle.passing.proofs.inhibit.Tie as tie
-use Rattle.passing.proofs.inhibit.Reads as reads
-use Rattle.passing.proofs.inhibit.Lts as lts
-use Rattle.passing.proofs.take.Reads as take-reads
 
--- src/lib.rt:144:5
 take-requires : tie.Need-take-requires
 take-requires c κs = search needs
 
--- src/lib.rt:128:1
 same-length : tie.Need-same-length
 same-length c = search needs
 
--- src/lib.rt:128:1
 returns : tie.Need-returns
-returns c = ?
+unfolding share-token taken-by confirmed-by
+returns c = c .before .before .take .ensures
 
 pub inhibit-spec : {M : Type 1} → statement M
 inhibit-spec = tie.close (tie.spec take-requires same-length returns)

@@ -1,50 +1,54 @@
+-- The asker's place, the token's state, what the request makes of it, and what comes of that.
+use mathlib.Core.Path.{ap, _∙_}
+use Rattle.records.specs.Confirms.{confirm}
+use Rattle.domain.specs.declared.token.Holding.{Holding}
+use Rattle.domain.specs.Tables.{users-of, tokens-of, state, at-limit}
+use Rattle.passing.specs.Taking.{taken-by, confirmed-by}
+use Rattle.passing.proofs.Asking.{asks-ignored}
+use Rattle.passing.proofs.Settling.{turns-from, taken-same}
 use borrow.Author.Needs.{needs}
 use Rattle.passing.proofs.take.Statement.{statement}
 use Rattle.passing.proofs.take.Tie as tie
-use Rattle.passing.proofs.take.Reads as reads
-use Rattle.passing.proofs.take.Lts as lts
-use Rattle.passing.proofs.asker.Reads as asker-reads
-use Rattle.passing.proofs.confirmed.Reads as confirmed-reads
-use Rattle.passing.proofs.full_for.Reads as full-for-reads
-use Rattle.passing.proofs.taken.Reads as taken-reads
-use Rattle.passing.proofs.turn.Reads as turn-reads
-use Rattle.tables.proofs.tokens.state.Reads as state-reads
 
--- src/lib.rt:82:9
 asker-requires : tie.Need-asker-requires
 asker-requires c κs = search needs
 
--- src/lib.rt:84:9
 returns : tie.Need-returns
-returns c = ?
+returns c =
+    let a = c .before .before .before .args in
+    asks-ignored (users-of (a .names .now) (a .homes .now)) (a .p) (a .u) _ (c .before .asker .ensures .0 (c .if1 .taken)) (tokens-of (a .keys .now) (a .modes .now) (a .values .now)) (a .out .now)
 
--- src/lib.rt:89:9
 state-requires : tie.Need-state-requires
 state-requires c κs = search needs
 
--- src/lib.rt:90:24
 full-for-requires : tie.Need-full-for-requires
 full-for-requires c κs = search needs
 
--- src/lib.rt:90:9
 taken-requires : tie.Need-taken-requires
 taken-requires c κs = search needs
 
--- src/lib.rt:91:9
 confirmed-requires : tie.Need-confirmed-requires
 confirmed-requires c κs = search needs
 
--- src/lib.rt:92:5
 turn-requires : tie.Need-turn-requires
 turn-requires c κs = search needs
 
--- src/lib.rt:65:1
 same-length : tie.Need-same-length
 same-length c = search needs
 
--- src/lib.rt:65:1
 returns-2 : tie.Need-returns-2
-returns-2 c = ?
+returns-2 c =
+    let a = c .before .before .before .before .before .before .before .before .before .before .before .before .before .before .before .before .before .before .args in
+    let us = users-of (a .names .now) (a .homes .now) in
+    let ts = tokens-of (a .keys .now) (a .modes .now) (a .values .now) in
+    let limit = at-limit (a .limit) (a .keys .now) in
+    let i = c .before .before .before .before .before .before .before .before .before .before .before .before .before .before .before .before .asker .result in
+    let h = c .before .before .before .before .before .before .before .before .before .before .before .state in
+    let free = taken-same (a .how) (h .result) i (c .before .before .before .before .before .before .before .before .before .full-for .result) limit (c .before .before .before .before .before .before .before .before .before .full-for .ensures) in
+    turns-from us ts (a .p) (a .u) i (a .k) (confirm (confirmed-by (a .how))) (taken-by (a .how) limit (state ts (a .k))) _ (a .out .now)
+    (c .before .before .before .before .before .before .before .before .before .before .before .before .before .before .before .before .asker .ensures .1 (c .before .before .before .before .before .before .before .before .before .before .before .before .before .before .before .if1 .left))
+    (c .before .before .before .before .before .before .before .before .taken .ensures ∙ free ∙ ap (λ (x : Holding). taken-by (a .how) limit x i) (h .ensures))
+    (rw (c .before .before .before .before .before .before .before .confirmed .ensures) at (c .before .before .turn .ensures))
 
 pub take-spec : {M : Type 1} → statement M
 take-spec =
