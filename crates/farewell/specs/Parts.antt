@@ -1,7 +1,9 @@
 -- The parts of a farewell, under a name each.
 use Prim.Native.Nat.{ℕ}
+use mathlib.Core.Bool.{Bool, false}
 use mathlib.Core.List.{List, []}
-use Rattle.places.specs.Sets.{if_then_else_, null, each}
+use lib.Dec.{eqb}
+use Rattle.places.specs.Sets.{if_then_else_, null, each, has}
 use Rattle.places.specs.Places.{find, load}
 use Rattle.messages.specs.Named.{DUin}
 use Rattle.records.specs.Records.{Sent, tell}
@@ -17,6 +19,10 @@ parting live reason ids = if null ids then [] else tell live (DUin reason ids)
 -- the kind of channel c
 abbrev pub kind-at : Channels → ℕ → Kind
 kind-at cs c = kind (load (cs .cells) (find (cs .ids) c) no-channel)
+
+-- a private channel, role 3, ends where its manager leaves
+abbrev pub ends-by : (gone role chair : ℕ) → Bool
+ends-by gone role chair = if eqb role 3 then has gone chair else false
 
 -- CDin for channel c, and TVcf for token k
 abbrev pub end-at : (us : Users) (cs : Channels) (gone live c : ℕ) → List Sent

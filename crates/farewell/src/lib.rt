@@ -1,5 +1,6 @@
 // The records that tell of users who leave: DUin by connection, CDin by channel, TVcf by token.
 ghost use mathlib.Core.Path.{_≡_};
+ghost use mathlib.Core.Bool.{false};
 ghost use mathlib.Core.List.{[], _∷_};
 ghost use Prim.Native.Nat.{ℕ, _+_, _≤_};
 ghost use lib.ListN.{length, take, getD};
@@ -13,7 +14,7 @@ ghost use Rattle.domain.specs.declared.token.Holding.the-variants.{Giving};
 ghost use Rattle.domain.specs.Tables.{users-of, channels-of, tokens-of, domain-of, name, link};
 ghost use Rattle.domain.specs.Tokens.{status as statusOf, lose as loseOf};
 ghost use Rattle.domain.specs.Leaving.{ended, returned, farewell as farewellOf};
-ghost use Rattle.farewell.specs.Parts.{parting, kind-at, end-at, return-at};
+ghost use Rattle.farewell.specs.Parts.{parting, kind-at, ends-by, end-at, return-at};
 use domain::channel::Kind;
 use domain::numbers::Result;
 use domain::token::Holding;
@@ -126,6 +127,69 @@ fn put_ends(
     at
 }
 
+// A channel of this role and manager's place ends.
+fn ends(role: u8, chair: u8, gone: u64) -> bool
+    ensures { λ r. ⌜ r ≡ ends-by gone role chair ⌝ }
+{
+    if role == 3 {
+        return places::masks::has(gone, chair);
+    }
+    false
+}
+
+// Some channel ends.
+fn any_ends(roles: &[u8; 128], chairs: &[u8; 128], gone: u64) -> bool
+    ensures { λ r. ⌜ (r ≡ false → (j : ℕ) → ends-by gone (getD (now (roles .entry)) j 0) (getD (now (chairs .entry)) j 0) ≡ false) ⌝ }
+{
+    let rs = &roles[..];
+    let cs = &chairs[..];
+    let mut i = 0;
+    while i < 128 {
+        if ends(rs[i], cs[i], gone) {
+            return true;
+        }
+        i += 1;
+    }
+    false
+}
+
+// CDin for each channel that ends, if any does.
+fn put_any_ends(
+    out: &mut [u8],
+    from: usize,
+    names: &[u16; 64],
+    homes: &[u8; 64],
+    ids: &[u16; 128],
+    roles: &[u8; 128],
+    chairs: &[u8; 128],
+    guests: &[u64; 128],
+    marks: &[u16; 128],
+    gone: u64,
+    live: u16,
+) -> usize
+    requires { ⌜ from ≤ 4096 ⌝ }
+    ensures { λ r. ⌜ (Puts (now (out .entry)) from (recordsOf (each (end-at (users-of (now (names .entry)) (now (homes .entry)))
+        (channels-of (now (ids .entry)) (now (roles .entry)) (now (chairs .entry)) (now (guests .entry)) (now (marks .entry))) gone live)
+        (inOrder (now (ids .entry))))) (now (out .exit)) r) × (r ≤ from + 14336) ⌝ }
+{
+    if any_ends(roles, chairs, gone) {
+        return put_ends(
+            out,
+            from,
+            names,
+            homes,
+            ids,
+            roles,
+            chairs,
+            guests,
+            marks,
+            gone,
+            live,
+        );
+    }
+    from
+}
+
 // The id of the user at a place, and its connection; 16 is no connection.
 fn name_at(names: &[u16; 64], i: u8) -> u16
     ensures { λ r. ⌜ r ≡ getD (now (names .entry)) i 0 ⌝ }
@@ -232,6 +296,42 @@ fn put_returns(
     at
 }
 
+// Some token is being given.
+fn any_giving(modes: &[u8; 64]) -> bool
+    ensures { λ r. ⌜ (r ≡ false → (j : ℕ) → getD (now (modes .entry)) j 0 ≡ 3 → ⊥) ⌝ }
+{
+    let ms = &modes[..];
+    let mut i = 0;
+    while i < 64 {
+        if ms[i] == 3 {
+            return true;
+        }
+        i += 1;
+    }
+    false
+}
+
+// TVcf for each token that returns to its giver, if any is being given.
+fn put_any_returns(
+    out: &mut [u8],
+    from: usize,
+    names: &[u16; 64],
+    homes: &[u8; 64],
+    keys: &[u16; 64],
+    modes: &[u8; 64],
+    values: &[u64; 64],
+    gone: u64,
+) -> usize
+    requires { ⌜ from ≤ 32768 ⌝ }
+    ensures { λ r. ⌜ Puts (now (out .entry)) from (recordsOf (each (return-at (users-of (now (names .entry)) (now (homes .entry)))
+        (tokens-of (now (keys .entry)) (now (modes .entry)) (now (values .entry))) gone) (inOrder (now (keys .entry))))) (now (out .exit)) r ⌝ }
+{
+    if any_giving(modes) {
+        return put_returns(out, from, names, homes, keys, modes, values, gone);
+    }
+    from
+}
+
 // The users at the places `gone` leave and the connections `live` remain: DUin with the first `count` of the ids, then CDin, then TVcf.
 pub fn farewell(
     out: &mut [u8],
@@ -256,7 +356,7 @@ pub fn farewell(
         (now (keys .entry)) (now (modes .entry)) (now (values .entry))) gone live reason (take count (now (list .entry))))) (now (out .exit)) r) ⌝ }
 {
     let a = put_first(out, live, reason, list, count);
-    let b = put_ends(
+    let b = put_any_ends(
         out,
         a,
         names,
@@ -269,5 +369,5 @@ pub fn farewell(
         gone,
         live,
     );
-    put_returns(out, b, names, homes, keys, modes, values, gone)
+    put_any_returns(out, b, names, homes, keys, modes, values, gone)
 }

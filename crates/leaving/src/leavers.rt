@@ -120,11 +120,12 @@ pub fn places_of(names: &[u16; 64], ids: &[u16]) -> u64
     ensures { λ r. ⌜ ((homes : List ℕ) → r ≡ placesOf (users-of (now (names .entry)) homes) (now (ids .entry))) ⌝ }
 {
     let at = &names[..];
+    let free = places::columns::member(ids, 0);
     let mut m: u64 = 0;
     let mut i: u8 = 0;
     while i < 64 {
         let j = i as usize;
-        m = mark(m, i, places::columns::member(ids, at[j]));
+        m = mark(m, i, places::columns::among(ids, free, at[j]));
         i += 1;
     }
     m

@@ -2,17 +2,74 @@
 mod leavers;
 
 ghost use mathlib.Core.Path.{_≡_};
-ghost use Prim.Native.Nat.{_%_, _≤_};
-ghost use lib.ListN.{take};
+ghost use mathlib.Core.Bool.{true, false};
+ghost use Prim.Native.Nat.{ℕ, _%_, _≤_, _<_};
+ghost use lib.ListN.{length, take};
+ghost use Rattle.records.specs.Records.{records};
 ghost use Rattle.domain.specs.declared.Limits.{Limits};
 ghost use Rattle.domain.specs.Tables.{domain-of};
 ghost use Rattle.domain.specs.Effects.{settle, answered};
-ghost use Rattle.domain.specs.Leaving.{leave as leaveOf, detach as detachOf, close as closeOf};
+ghost use Rattle.domain.specs.Leaving.{farewell as farewellOf, leave as leaveOf, detach as detachOf, close as closeOf};
 use domain::answer::Answer;
 use domain::numbers::Reason;
 use domain::numbers::Reply;
 
-// The first `count` of the list leave, and the connections `live` remain: the records twice, once to know their size; then the tables.
+// There is room for the records of those who leave. Only a short room is tried: 17,200 octets are enough for any.
+fn fits(
+    room: usize,
+    names: &[u16; 64],
+    homes: &[u8; 64],
+    ids: &[u16; 128],
+    roles: &[u8; 128],
+    chairs: &[u8; 128],
+    guests: &[u64; 128],
+    marks: &[u16; 128],
+    keys: &[u16; 64],
+    modes: &[u8; 64],
+    values: &[u64; 64],
+    gone: u64,
+    live: u16,
+    reason: u8,
+    list: &[u16; 64],
+    count: usize,
+) -> bool
+    requires { ⌜ count ≤ 64 ⌝ }
+    ensures { λ r. ⌜ ((l : Limits) (links : ℕ) → (r ≡ true → length (records (farewellOf (domain-of l links (now (names .entry)) (now (homes .entry)) (now (ids .entry)) (now (roles .entry))
+        (now (chairs .entry)) (now (guests .entry)) (now (marks .entry)) (now (keys .entry)) (now (modes .entry)) (now (values .entry)))
+        gone live reason (take count (now (list .entry))))) ≤ room)
+        × (r ≡ false → room < length (records (farewellOf (domain-of l links (now (names .entry)) (now (homes .entry)) (now (ids .entry)) (now (roles .entry))
+        (now (chairs .entry)) (now (guests .entry)) (now (marks .entry)) (now (keys .entry)) (now (modes .entry)) (now (values .entry)))
+        gone live reason (take count (now (list .entry))))))) ⌝ }
+{
+    // How long the columns are: so many records at most.
+    let n = ids[..].len();
+    let m = keys[..].len();
+    let k = list[..].len();
+    if room < 17200 {
+        let total = farewell::farewell(
+            &mut [],
+            names,
+            homes,
+            ids,
+            roles,
+            chairs,
+            guests,
+            marks,
+            keys,
+            modes,
+            values,
+            gone,
+            live,
+            reason,
+            list,
+            count,
+        );
+        return total <= room;
+    }
+    true
+}
+
+// The first `count` of the list leave, and the connections `live` remain: the records, where there is room for them; then the tables.
 fn leave(
     links: &mut u16,
     names: &mut [u16; 64],
@@ -42,9 +99,8 @@ fn leave(
 {
     let all = &list[..];
     let gone = leavers::places_of(names, &all[..count]);
-    let room = out.len();
-    let total = farewell::farewell(
-        &mut out[room..],
+    if !fits(
+        out.len(),
         names,
         homes,
         ids,
@@ -60,14 +116,13 @@ fn leave(
         reason,
         list,
         count,
-    );
-    if room < total {
+    ) {
         return Answer {
             reply: Reply::NoRoom,
             sent: 0,
         };
     }
-    farewell::farewell(
+    let total = farewell::farewell(
         out,
         names,
         homes,

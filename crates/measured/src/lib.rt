@@ -1,4 +1,5 @@
 // Loops over the codec and the provider for a C program to time. The sums keep the compiler from leaving the work out.
+pub mod events;
 
 // Reads a message so many times; the sum of what was read.
 #[no_mangle]

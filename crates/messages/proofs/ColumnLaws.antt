@@ -3,7 +3,7 @@
 use mathlib.Core.Path.{_≡_, refl, sym, ap, _∙_}
 use mathlib.Core.Bool.{Bool, true, false, cond, _&&_, not}
 use mathlib.Core.List.{List, [], _∷_, _++_, map}
-use Prim.Native.Nat.{ℕ, zero, suc, _+_, _<_, _≤_}
+use Prim.Native.Nat.{ℕ, zero, suc, _+_, _%_, _<_, _≤_}
 use native.Mathlib.Nat.{add-zero, add-suc, suc-add, zero-add}
 use native.Mathlib.Omega.{arith}
 use lib.ListN.{length, getD, take, length-map, List·getD-map, List·getD-eq-default}
@@ -13,7 +13,7 @@ use borrow.Author.Tests.{eq-eqb, leb-true, ltb-true, ltb-false}
 use Rattle.octets.specs.Octets.{aNumber, nothing}
 use Rattle.octets.proofs.OctetLaws.{both-left, both-right}
 use Rattle.messages.specs.Messages.{item, result, diagnostic, reason, status, channel, user, token, height, Row, unknown, Way, down, table, entry, row, may-go-up, is-served, is-covered}
-use Rattle.messages.specs.Columns.{packed, packedAt, wayAt, formAt, tailAt, countAt, kindsAt, kindAt, wayOf, fieldOf, tailOf, fieldsOf, lastField, rowFrom}
+use Rattle.messages.specs.Columns.{packed, packedAt, digit, wayAt, formAt, tailAt, countAt, kindsAt, kindAt, kindIn, wayOf, fieldOf, tailOf, fieldsOf, lastField, rowFrom}
 
 -- a test over the numbers from 0 on
 range : ℕ → ℕ → List ℕ
@@ -129,12 +129,38 @@ one-more n e = go (countAt n) (count-one-more n e)
     go (suc (suc (suc zero))) h = refl
     go (suc (suc (suc (suc c)))) h = absurd (omega arith)
 
+-- the columns of a line are those of its number
+module _ (n x : ℕ) (e : x ≡ packedAt n) where
+  pub up-at : not (eqb (x % 16) 0) ≡ may-go-up n
+  unfolding wayAt
+  up-at = ap (λ (y : ℕ). not (eqb (y % 16) 0)) e ∙ sym (up-from n)
+
+  pub served-at : eqb (x % 16) 2 ≡ is-served n
+  unfolding wayAt
+  served-at = ap (λ (y : ℕ). eqb (y % 16) 2) e ∙ sym (served-from n)
+
+  pub form-at : digit 1 x ≡ formAt n
+  unfolding formAt
+  form-at = ap (digit 1) e
+
+  pub tail-at : digit 2 x ≡ tailAt n
+  unfolding tailAt
+  tail-at = ap (digit 2) e
+
+  pub count-at : digit 3 x ≡ countAt n
+  unfolding countAt
+  count-at = ap (digit 3) e
+
+  pub kind-at : (i : ℕ) → kindIn x i ≡ kindAt n i
+  unfolding kindIn kindAt kindsAt
+  kind-at i = ap (λ (y : ℕ). kindIn y i) e
+
 -- in the table, whatever stands behind its end
 pub within-table : (xs : List ℕ) (n d e : ℕ) → n < length xs → getD xs n d ≡ getD xs n e
 within-table [] n d e h = absurd (omega arith)
 within-table (x ∷ xs) zero d e h = refl
 within-table (x ∷ xs) (suc n) d e h = within-table xs n d e (omega arith)
 
-pub kind-none : (n i : ℕ) → (((((Unit {0} × (i ≡ 0 → ⊥)) × (i ≡ 1 → ⊥)) × (i ≡ 2 → ⊥)) × (i ≡ 3 → ⊥))) → 7 ≡ kindAt n i
-unfolding kindAt kindsAt
-kind-none n i r = sym (List·getD-eq-default (kindsAt n) 7 (past 3 i (past 2 i (past 1 i (past 0 i (omega arith) (r .0 .0 .0 .1)) (r .0 .0 .1)) (r .0 .1)) (r .1)))
+pub kind-none : (x i : ℕ) → (((((Unit {0} × (i ≡ 0 → ⊥)) × (i ≡ 1 → ⊥)) × (i ≡ 2 → ⊥)) × (i ≡ 3 → ⊥))) → 7 ≡ kindIn x i
+unfolding kindIn
+kind-none x i r = sym (List·getD-eq-default (digit 4 x ∷ digit 5 x ∷ digit 6 x ∷ digit 7 x ∷ []) 7 (past 3 i (past 2 i (past 1 i (past 0 i (omega arith) (r .0 .0 .0 .1)) (r .0 .0 .1)) (r .0 .1)) (r .1)))

@@ -81,6 +81,10 @@ kindsAt n = digit 4 (packedAt n) ∷ digit 5 (packedAt n) ∷ digit 6 (packedAt 
 unfoldable pub kindAt : ℕ → ℕ → ℕ
 kindAt n i = getD (kindsAt n) i 7
 
+-- the same of a line's digits
+unfoldable pub kindIn : ℕ → ℕ → ℕ
+kindIn x i = getD (digit 4 x ∷ digit 5 x ∷ digit 6 x ∷ digit 7 x ∷ []) i 7
+
 -- what the digits stand for
 unfoldable pub wayOf : ℕ → Way
 wayOf k = getD (down ∷ up ∷ []) k served

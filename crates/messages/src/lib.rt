@@ -1,8 +1,10 @@
 // The table of the 43 messages, looked up by number, and the limits.
 ghost use mathlib.Core.Path.{_≡_};
-ghost use Prim.Native.Nat.{_≤_};
+ghost use mathlib.Core.Bool.{not};
+ghost use Prim.Native.Nat.{_%_, _≤_};
+ghost use lib.Dec.{eqb};
 ghost use Rattle.messages.specs.Messages.{may-go-up, is-served, is-covered};
-ghost use Rattle.messages.specs.Columns.{packedAt, formAt, countAt, tailAt, kindAt};
+ghost use Rattle.messages.specs.Columns.{packedAt, digit, formAt, countAt, tailAt, kindIn, kindAt};
 
 // At most so many ids in a list, octets in a string, octets in a message.
 pub const LIST_LIMIT: usize = 64;
@@ -62,7 +64,7 @@ const MESSAGES: [u32; 43] = [
 ];
 
 // The digits of a number's line; of 43 up, those of no message.
-fn entry_of(number: u32) -> u32
+pub fn entry_of(number: u32) -> u32
     ensures { λ r. ⌜ r ≡ packedAt number ⌝ }
 {
     if 42 < number {
@@ -71,53 +73,89 @@ fn entry_of(number: u32) -> u32
     MESSAGES[number as usize]
 }
 
-// Whether a message may go up, is served, is covered by the codec.
+// Whether a message may go up, is served, is covered by the codec: by its line, and by its number. Whoever asks more than once looks the line
+// up once.
+pub fn goes_up(line: u32) -> bool
+    ensures { λ r. ⌜ r ≡ not (eqb (line % 16) 0) ⌝ }
+{
+    line % 16 != 0
+}
+
+pub fn is_served(line: u32) -> bool
+    ensures { λ r. ⌜ r ≡ eqb (line % 16) 2 ⌝ }
+{
+    line % 16 == 2
+}
+
 pub fn may_go_up(number: u32) -> bool
     ensures { λ r. ⌜ r ≡ may-go-up number ⌝ }
 {
-    entry_of(number) % 16 != 0
+    goes_up(entry_of(number))
 }
 
 pub fn served(number: u32) -> bool
     ensures { λ r. ⌜ r ≡ is-served number ⌝ }
 {
-    entry_of(number) % 16 == 2
+    is_served(entry_of(number))
 }
 
 pub fn covered(number: u32) -> bool
     ensures { λ r. ⌜ r ≡ is-covered number ⌝ }
 {
-    (entry_of(number) >> 4) % 16 < 2
+    form_in(entry_of(number)) < 2
 }
 
-// The columns of a message's layout.
+// The columns of a message's layout, by its line, and by its number.
+pub fn form_in(line: u32) -> u8
+    ensures { λ r. ⌜ r ≡ digit 1 line ⌝ }
+{
+    ((line >> 4) % 16) as u8
+}
+
+pub fn tail_in(line: u32) -> u8
+    ensures { λ r. ⌜ r ≡ digit 2 line ⌝ }
+{
+    ((line >> 8) % 16) as u8
+}
+
+pub fn count_in(line: u32) -> usize
+    ensures { λ r. ⌜ r ≡ digit 3 line ⌝ }
+{
+    ((line >> 12) % 16) as usize
+}
+
+pub fn kind_in(line: u32, i: usize) -> u8
+    ensures { λ r. ⌜ r ≡ kindIn line i ⌝ }
+{
+    match i {
+        0 => ((line >> 16) % 16) as u8,
+        1 => ((line >> 20) % 16) as u8,
+        2 => ((line >> 24) % 16) as u8,
+        3 => ((line >> 28) % 16) as u8,
+        _ => 7,
+    }
+}
+
 pub fn form_of(number: u32) -> u8
     ensures { λ r. ⌜ r ≡ formAt number ⌝ }
 {
-    ((entry_of(number) >> 4) % 16) as u8
+    form_in(entry_of(number))
 }
 
 pub fn tail_of(number: u32) -> u8
     ensures { λ r. ⌜ r ≡ tailAt number ⌝ }
 {
-    ((entry_of(number) >> 8) % 16) as u8
+    tail_in(entry_of(number))
 }
 
 pub fn count_of(number: u32) -> usize
     ensures { λ r. ⌜ (r ≡ countAt number) × (r ≤ 4) ⌝ }
 {
-    ((entry_of(number) >> 12) % 16) as usize
+    count_in(entry_of(number))
 }
 
 pub fn kind_of(number: u32, i: usize) -> u8
     ensures { λ r. ⌜ r ≡ kindAt number i ⌝ }
 {
-    let entry = entry_of(number);
-    match i {
-        0 => ((entry >> 16) % 16) as u8,
-        1 => ((entry >> 20) % 16) as u8,
-        2 => ((entry >> 24) % 16) as u8,
-        3 => ((entry >> 28) % 16) as u8,
-        _ => 7,
-    }
+    kind_in(entry_of(number), i)
 }

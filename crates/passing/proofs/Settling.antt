@@ -26,8 +26,11 @@ use Rattle.domain.specs.declared.token.Holding.the-variants.{Free, Grabbed, Inh
 use Rattle.domain.proofs.token.Holding.{the-type}
 use Rattle.domain.specs.declared.token.Turned.{Turned as CodeTurned}
 use Rattle.domain.specs.declared.token.Turned.the-variants.{Fails, Turns}
-use Rattle.domain.specs.Tokens.{Turned, turnedOf, status, grabbed-by, offered-to, answered as answeredOf}
-use Rattle.domain.specs.Tables.{Users, Tokens, link, attached, state, set-token}
+use Rattle.passing.specs.declared.Taking.{Taking}
+use Rattle.passing.specs.declared.Taking.the-variants.{Alone, Together}
+use Rattle.passing.specs.Taking.{taken-by}
+use Rattle.domain.specs.Tokens.{Turned, turnedOf, grab, inhibit, status, grabbed-by, offered-to, answered as answeredOf}
+use Rattle.domain.specs.Tables.{Users, Tokens, link, attached, is-free, state, set-token}
 use Rattle.domain.specs.Effects.{Effect, done, ignored, from, Settled, settled, settle}
 use Rattle.domain.specs.Passing.{turn, offer, answer, informed}
 use Rattle.domain.proofs.Effects.{sends-full, sends-done, settle-done}
@@ -82,6 +85,28 @@ pub turn-full : (ts : Tokens) (p u i k : ℕ) (kind : Confirm) (t : CodeTurned) 
 unfolding turn
 turn-full ts p u i k kind (Fails r) out h = one-full ts ts p _ out 7 (confirm-length kind _ u k _) h
 turn-full ts p u i k kind (Turns s) out h = one-full ts (set-token ts k s) p _ out 7 (confirm-length kind _ u k _) h
+
+-- the request turns the token: it is stored, and then confirmed
+pub turn-done : (ts stored : Tokens) (p u i k : ℕ) (kind : Confirm) (t : CodeTurned) (h : Holding) (out : List ℕ) {s : Settled Tokens} → t ≡ Turns h → stored ≡ set-token ts k h
+    → s ≡ settle ts (done stored (to p (confirm kind 0 u k (status h i)) ∷ [])) out → s ≡ settle ts (turn ts p u i k (confirm kind) (turnedOf t)) out
+unfolding turn
+turn-done ts stored p u i k kind t h out e z r =
+    r ∙ ap (λ (x : Tokens). settle ts (done x (to p (confirm kind 0 u k (status h i)) ∷ [])) out) z
+    ∙ ap (λ (x : CodeTurned). settle ts (turn ts p u i k (confirm kind) (turnedOf x)) out) (sym e)
+
+-- whether the limit is reached matters for a free token alone
+pub taken-same : (how : Taking) (h : Holding) (u : ℕ) (a b : Bool) → (is-free h ≡ true → a ≡ b) → taken-by how a h u ≡ taken-by how b h u
+unfolding taken-by is-free grab inhibit
+taken-same Alone Free u a b e = ap (λ (f : Bool). grab f Free u) (e refl)
+taken-same Alone (Grabbed g) u a b e = refl
+taken-same Alone (Inhibited is) u a b e = refl
+taken-same Alone (Giving g r) u a b e = refl
+taken-same Alone (Given r) u a b e = refl
+taken-same Together Free u a b e = ap (λ (f : Bool). inhibit f Free u) (e refl)
+taken-same Together (Grabbed g) u a b e = refl
+taken-same Together (Inhibited is) u a b e = refl
+taken-same Together (Giving g r) u a b e = refl
+taken-same Together (Given r) u a b e = refl
 
 -- what the code settles for the user at place i is what the request settles
 pub turns-from : (us : Users) (ts : Tokens) (p u i k : ℕ) (confirms : (ℕ → ℕ → ℕ → ℕ → Message)) (act : (ℕ → Turned)) (t : Turned) (out : List ℕ) {s : Settled Tokens}

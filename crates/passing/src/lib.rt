@@ -9,9 +9,10 @@ ghost use Rattle.messages.specs.Named.{Message};
 ghost use Rattle.records.specs.Records.{to, tell as tellOf, wire};
 ghost use Rattle.records.specs.Confirms.{confirm as confirmOf};
 ghost use Rattle.domain.specs.Tokens.{turnedOf, status as statusOf, grabbed-by};
-ghost use Rattle.domain.specs.Tables.{Tokens, users-of, tokens-of, attached, at-limit, state, set-token};
+ghost use Rattle.domain.specs.Tables.{Tokens, users-of, tokens-of, attached, at-limit, is-free, state, set-token};
 ghost use Rattle.domain.specs.Effects.{settle, answered, done};
 ghost use Rattle.domain.specs.Passing.{turn as turnOf, take-token, share-token, drop-token, offer as offerOf, answer as answerOf, please as pleaseOf, test as testOf, informed};
+ghost use Rattle.passing.specs.Taking.{taken-by, confirmed-by, taking};
 use domain::answer::Answer;
 use domain::numbers::Reply;
 use domain::numbers::Result;
@@ -23,6 +24,73 @@ use records::compose::Confirm;
 const NOWHERE: u8 = 64;
 
 const CONFIRM: usize = 11;
+
+// How a token is taken: TGrq for one user alone, TIrq together with others.
+enum Taking {
+    Alone,
+    Together,
+}
+
+// What the request makes of a token in state h, for the user at place i.
+fn taken(how: Taking, full: bool, h: Holding, i: u8) -> Turned
+    ensures { λ r. ⌜ turnedOf r ≡ taken-by how full h i ⌝ }
+{
+    match how {
+        Taking::Alone => domain::token::grab(full, h, i),
+        Taking::Together => domain::token::inhibit(full, h, i),
+    }
+}
+
+// The confirm that answers it.
+fn confirmed(how: Taking) -> Confirm
+    ensures { λ r. ⌜ r ≡ confirmed-by how ⌝ }
+{
+    match how {
+        Taking::Alone => Confirm::Grab,
+        Taking::Together => Confirm::Inhibit,
+    }
+}
+
+// Where the token is free, whether the limit is reached: the table is counted for no other.
+fn full_for(h: Holding, limit: u8, keys: &[u16; 64]) -> bool
+    ensures { λ r. ⌜ (is-free h ≡ true → r ≡ at-limit limit (now (keys .entry))) ⌝ }
+{
+    if domain::token::free(h) {
+        return full(limit, keys);
+    }
+    false
+}
+
+// TGrq or TIrq by u on p for token k.
+fn take(
+    names: &[u16; 64],
+    homes: &[u8; 64],
+    keys: &mut [u16; 64],
+    modes: &mut [u8; 64],
+    values: &mut [u64; 64],
+    limit: u8,
+    p: u8,
+    u: u16,
+    k: u16,
+    how: Taking,
+    out: &mut [u8],
+) -> Answer
+    ensures { λ r. ⌜ answered r (tokens-of (now (keys .exit)) (now (modes .exit)) (now (values .exit))) (now (out .exit))
+        ≡ settle (tokens-of (now (keys .entry)) (now (modes .entry)) (now (values .entry)))
+        (taking how (at-limit limit (now (keys .entry))) (users-of (now (names .entry)) (now (homes .entry))) (tokens-of (now (keys .entry)) (now (modes .entry)) (now (values .entry))) p u k) (now (out .entry)) ⌝ }
+{
+    let i = asker(names, homes, p, u);
+    if i == NOWHERE {
+        return Answer {
+            reply: Reply::Ignored,
+            sent: 0,
+        };
+    }
+    let h = tables::tokens::state(keys, modes, values, k);
+    let t = taken(how, full_for(h, limit, keys), h, i);
+    let kind = confirmed(how);
+    turn(keys, modes, values, kind, p, u, i, k, h, t, out)
+}
 
 // TGrq by u on p for token k.
 pub fn grab(
@@ -41,16 +109,19 @@ pub fn grab(
         ≡ settle (tokens-of (now (keys .entry)) (now (modes .entry)) (now (values .entry)))
         (take-token (at-limit limit (now (keys .entry))) (users-of (now (names .entry)) (now (homes .entry))) (tokens-of (now (keys .entry)) (now (modes .entry)) (now (values .entry))) p u k) (now (out .entry)) ⌝ }
 {
-    let i = asker(names, homes, p, u);
-    if i == NOWHERE {
-        return Answer {
-            reply: Reply::Ignored,
-            sent: 0,
-        };
-    }
-    let h = tables::tokens::state(keys, modes, values, k);
-    let t = domain::token::grab(full(limit, keys), h, i);
-    turn(keys, modes, values, Confirm::Grab, p, u, i, k, h, t, out)
+    take(
+        names,
+        homes,
+        keys,
+        modes,
+        values,
+        limit,
+        p,
+        u,
+        k,
+        Taking::Alone,
+        out,
+    )
 }
 
 // TIrq by u on p for token k.
@@ -70,16 +141,19 @@ pub fn inhibit(
         ≡ settle (tokens-of (now (keys .entry)) (now (modes .entry)) (now (values .entry)))
         (share-token (at-limit limit (now (keys .entry))) (users-of (now (names .entry)) (now (homes .entry))) (tokens-of (now (keys .entry)) (now (modes .entry)) (now (values .entry))) p u k) (now (out .entry)) ⌝ }
 {
-    let i = asker(names, homes, p, u);
-    if i == NOWHERE {
-        return Answer {
-            reply: Reply::Ignored,
-            sent: 0,
-        };
-    }
-    let h = tables::tokens::state(keys, modes, values, k);
-    let t = domain::token::inhibit(full(limit, keys), h, i);
-    turn(keys, modes, values, Confirm::Inhibit, p, u, i, k, h, t, out)
+    take(
+        names,
+        homes,
+        keys,
+        modes,
+        values,
+        limit,
+        p,
+        u,
+        k,
+        Taking::Together,
+        out,
+    )
 }
 
 // TRrq by u on p for token k.

@@ -1,11 +1,12 @@
 -- A place as the number that the code answers: below the length it is that place, and the length is nowhere.
 use mathlib.Core.Path.{_≡_, refl, sym, ap, _∙_}
+use mathlib.Core.Bool.{true, false, true≢false}
 use mathlib.Core.List.{List}
 use Prim.Native.Nat.{ℕ, _≤_, _<_}
 use native.Mathlib.Omega.{arith}
-use lib.ListN.{length}
-use Rattle.places.specs.Places.{Place, At, Nowhere, first, find, spare, number}
-use Rattle.places.proofs.Rows.{first-holds, find-holds}
+use lib.ListN.{length, getD}
+use Rattle.places.specs.Places.{Place, At, Nowhere, first, find, found, spare, number}
+use Rattle.places.proofs.Rows.{first-holds, find-holds, find-none}
 
 -- the places that a search in n places can give
 abbrev pub Inside : ℕ → Place → Type 0
@@ -58,6 +59,35 @@ module _ (ids : List ℕ) (x r : ℕ) (is : r ≡ number (length ids) (find ids 
 
   pub find-nowhere : length ids ≤ r → find ids x ≡ Nowhere
   find-nowhere = number-none (length ids) (find ids x) r is (find-inside ids x)
+
+-- an id that stands at a place is found, though it may be elsewhere
+pub stands-found : (ids : List ℕ) (x i : ℕ) → 0 < x → getD ids i 0 ≡ x → found (find ids x) ≡ true
+unfolding found
+stands-found ids x i z e = go (find ids x) refl
+  where
+    go : (p : Place) → find ids x ≡ p → found p ≡ true
+    go (At j) q = refl
+    go Nowhere q = absurd (find-none ids x q z i e)
+
+-- whether it is found, by the code's answer; and where
+module _ (ids : List ℕ) (x r : ℕ) (is : r ≡ number (length ids) (find ids x)) where
+  pub seen-found : r < length ids → found (find ids x) ≡ true
+  unfolding found
+  seen-found l = ap found (find-at ids x r is l)
+
+  pub unseen : length ids ≤ r → found (find ids x) ≡ false
+  unfolding found
+  unseen l = ap found (find-nowhere ids x r is l)
+
+pub found-somewhere : (p : Place) → found p ≡ true → (i : ℕ) × (p ≡ At i)
+unfolding found
+found-somewhere (At i) e = (i, refl)
+found-somewhere Nowhere e = absurd (true≢false (sym e))
+
+pub found-nowhere : (p : Place) → found p ≡ false → p ≡ Nowhere
+unfolding found
+found-nowhere (At i) e = absurd (true≢false e)
+found-nowhere Nowhere e = refl
 
 module _ (ids : List ℕ) (r : ℕ) (is : r ≡ number (length ids) (spare ids)) where
   pub spare-le : r ≤ length ids

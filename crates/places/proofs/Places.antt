@@ -3,8 +3,10 @@ use mathlib.Core.Path.{_≡_, refl, sym, _∙_}
 use mathlib.Core.Bool.{Bool, true, false, not, _||_}
 use mathlib.Core.List.{List, [], _∷_, _++_, map, append-nil}
 use mathlib.Core.Option.{Option}
-use Prim.Native.Nat.{ℕ, suc, _≤_, _<_}
+use Prim.Native.Nat.{ℕ, suc, _+_, _≤_, _<_}
 use native.Mathlib.Nat.{le-refl}
+use native.Mathlib.Numerals.{add-one}
+use native.Mathlib.Omega.{arith}
 use lib.Dec.{eqb}
 use lib.ListN.{length, getD, set, take, drop, drop-of-length-le}
 use lib.Seq.{drop-cons, drop-set-lt, take-suc-set, append-snoc, take-all, set-getD}
@@ -26,6 +28,13 @@ module _ (ids : List ℕ) (x i : ℕ) where
   pub first-none : length ids ≤ i → first i x (drop i ids) ≡ Nowhere
   unfolding first
   first-none h = rw (drop-of-length-le ids h)
+
+-- gone past i and the place behind it
+pub first-two : (ids : List ℕ) (x i : ℕ) → i + 2 ≤ length ids → (getD ids i 0 ≡ x → ⊥) → (getD ids (i + 1) 0 ≡ x → ⊥)
+    → first i x (drop i ids) ≡ first (i + 2) x (drop (i + 2) ids)
+first-two ids x i h a b =
+    let e : i + 2 ≡ suc (suc i) = omega arith in
+    rw e (first-miss ids x i (omega arith) a ∙ first-miss ids x (suc i) (omega arith) (rw (add-one i) at b))
 
 -- ---- a list with one more in front
 

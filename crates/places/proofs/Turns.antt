@@ -2,12 +2,12 @@
 use mathlib.Core.Path.{_≡_, refl, sym, ap, _∙_}
 use mathlib.Core.Bool.{Bool, true, false}
 use mathlib.Core.List.{List, [], _∷_, _++_}
-use Prim.Native.Nat.{ℕ, zero, suc, _+_, _≤_, _<_}
+use Prim.Native.Nat.{ℕ, zero, suc, _+_, _-_, _≤_, _<_}
 use native.Mathlib.Omega.{arith}
-use lib.Dec.{ltb}
-use lib.ListN.{length, getD, take, drop, drop-of-length-le, length-append}
-use lib.Seq.{drop-cons, take-suc, take-all}
-use borrow.Author.Tests.{eq-eqb, ne-eqb, lt-ltb, le-ltb}
+use lib.Dec.{eqb, ltb}
+use lib.ListN.{length, getD, take, drop, drop-of-length-le, length-append, length-take}
+use lib.Seq.{drop-cons, take-suc, take-all, take-add}
+use borrow.Author.Tests.{eq-eqb, ne-eqb, eqb-true, lt-ltb, le-ltb, ltb-true, ltb-false}
 use Rattle.places.specs.Sets.{if_then_else_, keep, any, upto, member, has, listed}
 use Rattle.places.specs.Places.{Place, At, Nowhere, find, used, lesser, next, rising, unused}
 use Rattle.places.proofs.Order.{keep-le}
@@ -39,6 +39,13 @@ pub used-within : (ids : List ℕ) → used ids ≤ length ids
 unfolding used
 used-within ids = keep-le (λ z. ltb 0 z) ids
 
+-- a part behind those counted
+pub used-part : (ids : List ℕ) (i k : ℕ) → used (take (i + k) ids) ≡ used (take i ids) + used (take k (drop i ids))
+used-part ids i k = ap used (take-add i k ids) ∙ used-append (take i ids) (take k (drop i ids))
+
+pub part-within : (ids : List ℕ) (i k : ℕ) → used (take k (drop i ids)) ≤ k
+part-within ids i k = omega (arith, used-within (take k (drop i ids)), length-take k (drop i ids))
+
 -- one place
 pub used-none : (x : ℕ) → x ≡ 0 → 0 ≡ used (x ∷ [])
 unfolding used keep
@@ -67,6 +74,62 @@ module _ (low best x : ℕ) where
   unfolding next lesser
   next-more h n l = rw (lt-ltb low x h, ne-eqb best 0 n, le-ltb x best l)
 
+-- The code holds how far behind `low` the least id stands; from 65,535 - low on it holds none.
+unfoldable pub held : (low best : ℕ) → ℕ
+held low best = if ltb best (65535 - low) then best + low + 1 else 0
+
+module _ (low best : ℕ) where
+  pub held-some : best < 65535 - low → held low best ≡ best + low + 1
+  unfolding held
+  held-some h = rw (lt-ltb best (65535 - low) h)
+
+  pub held-none : 65535 - low ≤ best → held low best ≡ 0
+  unfolding held
+  held-none h = rw (le-ltb best (65535 - low) h)
+
+-- one more place: its id x stands k behind `low`, and the lesser of k and the best is r
+module _ (low best x k r : ℕ) (top : x ≤ 65535) (far : low < x → x ≡ k + low + 1) (round : x ≤ low → 65535 - low ≤ k)
+    (less : k < best → r ≡ k) (more : best ≤ k → r ≡ best) where
+  pub next-held : held low r ≡ next low (held low best) (x ∷ [])
+  next-held = go (ltb low x) refl (ltb best (65535 - low)) refl (ltb k best) refl
+    where
+      old : ℕ
+      old = held low best
+
+      go : (a : Bool) → ltb low x ≡ a → (b : Bool) → ltb best (65535 - low) ≡ b → (d : Bool) → ltb k best ≡ d → held low r ≡ next low old (x ∷ [])
+      go true p true q true s =
+          let u = ltb-true low x p in
+          let v = ltb-true best (65535 - low) q in
+          let w = ltb-true k best s in
+          let e = held-some low best v in
+          omega (arith, far u, less w, held-some low r (omega (arith, less w)), next-less low old x u (λ z. omega arith) (omega (arith, far u)))
+      go true p true q false s =
+          let u = ltb-true low x p in
+          let v = ltb-true best (65535 - low) q in
+          let w = ltb-false k best s in
+          let e = held-some low best v in
+          omega (arith, more w, held-some low r (omega (arith, more w)), next-more low old x u (λ z. omega arith) (omega (arith, far u)))
+      go true p false q d s =
+          let u = ltb-true low x p in
+          let v = ltb-false best (65535 - low) q in
+          let w : k < best = omega (arith, far u) in
+          let e = held-none low best v in
+          omega (arith, far u, less w, held-some low r (omega (arith, far u, less w)), next-new low old x u e)
+      go false p true q d s =
+          let u = ltb-false low x p in
+          let v = ltb-true best (65535 - low) q in
+          let w : best ≤ k = omega (arith, round u) in
+          omega (arith, more w, held-some low r (omega (arith, more w)), held-some low best v, next-low low old x u)
+      go false p false q true s =
+          let u = ltb-false low x p in
+          let w = ltb-true k best s in
+          omega (arith, held-none low r (omega (arith, round u, less w)), held-none low best (ltb-false best (65535 - low) q), next-low low old x u)
+      go false p false q false s =
+          let u = ltb-false low x p in
+          let v = ltb-false best (65535 - low) q in
+          let w = ltb-false k best s in
+          omega (arith, held-none low r (omega (arith, more w)), held-none low best v, next-low low old x u)
+
 module _ (low best : ℕ) (ids : List ℕ) (i : ℕ) where
   pub next-turn : i < length ids → next low best (drop i ids) ≡ next low (next low best (getD ids i 0 ∷ [])) (drop (suc i) ids)
   unfolding next
@@ -90,6 +153,14 @@ module _ (x : ℕ) (ids : List ℕ) (i : ℕ) where
   pub member-end : length ids ≤ i → member x (drop i ids) ≡ false
   unfolding member any
   member-end h = rw (drop-of-length-le ids h)
+
+-- what is known of 0 need not be looked for
+pub among-is : (x : ℕ) (ids : List ℕ) (z : Bool) → z ≡ member 0 ids → (if eqb x 0 then z else member x ids) ≡ member x ids
+among-is x ids z e = go (eqb x 0) refl
+  where
+    go : (b : Bool) → eqb x 0 ≡ b → (if b then z else member x ids) ≡ member x ids
+    go true q = e ∙ ap (λ (y : ℕ). member y ids) (sym (eqb-true x 0 q))
+    go false q = refl
 
 -- ---- a free id
 

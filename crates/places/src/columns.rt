@@ -1,15 +1,54 @@
 // A column of ids. A place whose id is 0 is free. A place that is nowhere is answered as the column's length.
 ghost use mathlib.Core.Path.{_≡_};
+ghost use mathlib.Core.Bool.{true, false};
 ghost use mathlib.Core.List.{[], _∷_};
-ghost use lib.ListN.{length};
-ghost use Rattle.places.specs.Sets.{member as memberOf};
-ghost use Rattle.places.specs.Places.{first as firstIn, find as findIn, spare as spareIn, used as usedIn, next as nextIn, number, unused as unusedIn};
+ghost use Prim.Native.Nat.{_+_, _-_, _<_, _≤_};
+ghost use lib.Dec.{eqb};
+ghost use lib.ListN.{length, drop};
+ghost use Rattle.places.specs.Sets.{if_then_else_, member as memberOf};
+ghost use Rattle.places.specs.Places.{first as firstIn, find as findIn, found, spare as spareIn, used as usedIn, next as nextIn, number, unused as unusedIn};
+
+// One of the two, four, eight places from i on holds x. They are looked at together: no branch stands between them.
+fn of_two(ids: &[u16], i: usize, x: u16) -> bool
+    requires { ⌜ i + 2 ≤ length (now ids) ⌝ }
+    ensures { λ r. ⌜ (r ≡ false → firstIn i x (drop i (now (ids .entry))) ≡ firstIn (i + 2) x (drop (i + 2) (now (ids .entry)))) ⌝ }
+{
+    (ids[i] == x) | (ids[i + 1] == x)
+}
+
+fn of_four(ids: &[u16], i: usize, x: u16) -> bool
+    requires { ⌜ i + 4 ≤ length (now ids) ⌝ }
+    ensures { λ r. ⌜ (r ≡ false → firstIn i x (drop i (now (ids .entry))) ≡ firstIn (i + 4) x (drop (i + 4) (now (ids .entry)))) ⌝ }
+{
+    of_two(ids, i, x) | of_two(ids, i + 2, x)
+}
+
+fn of_eight(ids: &[u16], i: usize, x: u16) -> bool
+    requires { ⌜ i + 8 ≤ length (now ids) ⌝ }
+    ensures { λ r. ⌜ (r ≡ false → firstIn i x (drop i (now (ids .entry))) ≡ firstIn (i + 8) x (drop (i + 8) (now (ids .entry)))) ⌝ }
+{
+    of_four(ids, i, x) | of_four(ids, i + 4, x)
+}
+
+// A place that x does not stand before, found eight places at a time.
+fn skipped(ids: &[u16], x: u16) -> usize
+    ensures { λ r. ⌜ (r ≤ length (now (ids .entry))) × (firstIn 0 x (now (ids .entry)) ≡ firstIn r x (drop r (now (ids .entry)))) ⌝ }
+{
+    let mut i = 0;
+    while 8 <= ids.len() - i {
+        if of_eight(ids, i, x) {
+            return i;
+        }
+        i += 8;
+    }
+    i
+}
 
 // The first place that holds x. The ids in use stand low, so going up ends soon.
 fn first(ids: &[u16], x: u16) -> usize
     ensures { λ r. ⌜ r ≡ number (length (now (ids .entry))) (firstIn 0 x (now (ids .entry))) ⌝ }
 {
-    let mut i = 0;
+    let mut i = skipped(ids, x);
     while i < ids.len() {
         if ids[i] == x {
             return i;
@@ -37,7 +76,7 @@ pub fn spare(ids: &[u16]) -> usize
 }
 
 // A place counts if its id is not 0.
-fn in_use(x: u16) -> usize
+fn in_use(x: u16) -> u16
     ensures { λ r. ⌜ r ≡ usedIn (x ∷ []) ⌝ }
 {
     if x == 0 {
@@ -46,46 +85,74 @@ fn in_use(x: u16) -> usize
     1
 }
 
-// How many places are in use.
+// How many of some places are in use. A short number counts them: more places are then looked at together.
+fn used_of(ids: &[u16]) -> u16
+    requires { ⌜ length (now ids) ≤ 4096 ⌝ }
+    ensures { λ r. ⌜ r ≡ usedIn (now (ids .entry)) ⌝ }
+{
+    let mut k: u16 = 0;
+    let mut i = 0;
+    while i < ids.len() {
+        k += in_use(ids[i]);
+        i += 1;
+    }
+    k
+}
+
+// The end of the part that starts at a place.
+fn part_end(from: usize, n: usize) -> usize
+    requires { ⌜ from ≤ n ⌝ }
+    ensures { λ r. ⌜ (r ≤ n) × (r ≤ from + 4096) × (from ≤ r) × (from < n → from < r) ⌝ }
+{
+    if n - from < 4096 { n } else { from + 4096 }
+}
+
+// How many places are in use, a part at a time.
 pub fn used(ids: &[u16]) -> usize
     ensures { λ r. ⌜ r ≡ usedIn (now (ids .entry)) ⌝ }
 {
     let mut n = 0;
     let mut i = 0;
     while i < ids.len() {
-        n += in_use(ids[i]);
-        i += 1;
+        let to = part_end(i, ids.len());
+        n += used_of(&ids[i..to]) as usize;
+        i = to;
     }
     n
 }
 
-// The least id above `low` so far, after x.
-fn lesser(low: u16, best: u16, x: u16) -> u16
-    ensures { λ r. ⌜ r ≡ nextIn low best (x ∷ []) ⌝ }
+// How far behind `low` an id stands; those up to `low` come round, behind all others.
+fn behind(low: u16, x: u16) -> u16
+    ensures { λ r. ⌜ (low < x → x ≡ r + low + 1) × (x ≤ low → 65535 - low ≤ r) ⌝ }
 {
     if x <= low {
-        return best;
+        x + (65535 - low)
+    } else {
+        x - low - 1
     }
-    if best == 0 {
-        return x;
-    }
-    if x < best {
-        return x;
-    }
-    best
+}
+
+fn lesser(a: u16, b: u16) -> u16
+    ensures { λ r. ⌜ (a < b → r ≡ a) × (b ≤ a → r ≡ b) ⌝ }
+{
+    if a < b { a } else { b }
 }
 
 // The least id above `low`, or 0.
 pub fn next(ids: &[u16], low: u16) -> u16
     ensures { λ r. ⌜ r ≡ nextIn low 0 (now (ids .entry)) ⌝ }
 {
-    let mut best: u16 = 0;
+    let mut best: u16 = 65535;
     let mut i = 0;
     while i < ids.len() {
-        best = lesser(low, best, ids[i]);
+        best = lesser(behind(low, ids[i]), best);
         i += 1;
     }
-    best
+    if best < 65535 - low {
+        best + low + 1
+    } else {
+        0
+    }
 }
 
 // An id is in a list.
@@ -102,16 +169,42 @@ pub fn member(ids: &[u16], x: u16) -> bool
     false
 }
 
-// The lowest id from 1001 that no place has, of 129 tried.
+// An id is in a list, where it is known whether 0 is: most places of a table are free, and none of them is then looked for.
+pub fn among(ids: &[u16], free: bool, x: u16) -> bool
+    ensures { λ r. ⌜ r ≡ (if eqb x 0 then free else memberOf x (now (ids .entry))) ⌝ }
+{
+    if x == 0 {
+        return free;
+    }
+    member(ids, x)
+}
+
+// A place of x: the one it is looked for first, if it stands there, else the one found; the length is nowhere.
+fn seek(ids: &[u16], hint: usize, x: u16) -> usize
+    requires { ⌜ 0 < x ⌝ }
+    ensures { λ r. ⌜ (r ≤ length (now (ids .entry))) × (r < length (now (ids .entry)) → found (findIn (now (ids .entry)) x) ≡ true) × (length (now (ids .entry)) ≤ r → found (findIn (now (ids .entry)) x) ≡ false) ⌝ }
+{
+    if hint < ids.len() {
+        if ids[hint] == x {
+            return hint;
+        }
+    }
+    find(ids, x)
+}
+
+// The lowest id from 1001 that no place has, of 129 tried. An id is looked for behind the last: new ids come in their order.
 pub fn unused(ids: &[u16]) -> u16
     ensures { λ r. ⌜ r ≡ unusedIn 128 (now (ids .entry)) 1001 ⌝ }
 {
     let mut x: u16 = 1001;
     let mut left: u16 = 128;
+    let mut hint = 0;
     while 0 < left {
-        if find(ids, x) == ids.len() {
+        let at = seek(ids, hint, x);
+        if at == ids.len() {
             return x;
         }
+        hint = at + 1;
         x += 1;
         left -= 1;
     }

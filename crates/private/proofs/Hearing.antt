@@ -7,7 +7,7 @@ use native.Mathlib.Nat.{min-le-left}
 use native.Mathlib.Numerals.{add-one}
 use native.Mathlib.Omega.{arith}
 use borrow.Author.Tests.{le-leb}
-use lib.ListN.{length, take, length-take}
+use lib.ListN.{length, take, length-take, length-append}
 use Rattle.places.specs.Sets.{if_then_else_, keep, null, each, below, once, links}
 use Rattle.places.specs.Places.{found}
 use Rattle.places.proofs.Order.{keep-le}
@@ -19,11 +19,9 @@ use Rattle.records.proofs.Telling.{run, below-run, records-append, records-none
 use Rattle.records.proofs.Wire.{wire-CAin, wire-CEin}
 use Rattle.domain.specs.Tables.{Users, attached}
 use Rattle.domain.specs.Channels.{own}
-use Rattle.private.specs.declared.Pick.{Pick}
-use Rattle.private.specs.declared.Pick.the-variants.{On}
 use Rattle.private.specs.declared.Say.{Say}
 use Rattle.private.specs.declared.Say.the-variants.{Admits, Expels}
-use Rattle.private.specs.Sieve.{sieved, says, own-to}
+use Rattle.private.specs.Sieve.{owned-by, says, own-to}
 
 -- ---- lengths
 take-le : (r : ℕ) (xs : List ℕ) → length (take r xs) ≤ r
@@ -67,15 +65,15 @@ module _ (us : Users) (ids : List ℕ) (say : List ℕ → Message) (q : ℕ) wh
   abbrev heard : List ℕ → List Sent
   heard l = if null l then [] else to q (say l) ∷ []
 
-  owns : (l : List ℕ) → l ≡ sieved us (On q) ids → own-to us ids say q ≡ heard l
-  unfolding own-to sieved
+  owns : (l : List ℕ) → l ≡ owned-by us q ids → own-to us ids say q ≡ heard l
+  unfolding own-to
   owns l e = ap heard (sym e)
 
-  pub own-silent : (t : List ℕ) (n : ℕ) → take n t ≡ sieved us (On q) ids → n ≡ 0 → (s : List ℕ) (at : ℕ) → Puts s at (records (own-to us ids say q)) s at
+  pub own-silent : (t : List ℕ) (n : ℕ) → take n t ≡ owned-by us q ids → n ≡ 0 → (s : List ℕ) (at : ℕ) → Puts s at (records (own-to us ids say q)) s at
   unfolding null
   own-silent t n e z s at = rw (owns [] (ap (λ (k : ℕ). take k t) (sym z) ∙ e)) (put-nobody s at)
 
-  pub own-heard : (t : List ℕ) (n : ℕ) → take n t ≡ sieved us (On q) ids → (n ≡ 0 → ⊥) → n ≤ length t → own-to us ids say q ≡ to q (say (take n t)) ∷ []
+  pub own-heard : (t : List ℕ) (n : ℕ) → take n t ≡ owned-by us q ids → (n ≡ 0 → ⊥) → n ≤ length t → own-to us ids say q ≡ to q (say (take n t)) ∷ []
   unfolding null
   own-heard t n e z h = owns (take n t) e ∙ some t n z h
     where
@@ -84,7 +82,7 @@ module _ (us : Users) (ids : List ℕ) (say : List ℕ → Message) (q : ℕ) wh
       some [] (suc n) z h = absurd (omega arith)
       some (x ∷ t) (suc n) z h = refl
 
-  pub own-most : length ids ≤ 64 → ((l : List ℕ) → length l ≤ 64 → length (wire (say l)) ≤ 134) → length (records (own-to us ids say q)) ≤ 138
+  own-most : length ids ≤ 64 → ((l : List ℕ) → length l ≤ 64 → length (wire (say l)) ≤ 134) → length (records (own-to us ids say q)) ≤ 138
   unfolding own-to null
   own-most h f = go (keep (λ v. found (attached us q v)) ids) (keep-le (λ v. found (attached us q v)) ids)
     where
@@ -92,14 +90,19 @@ module _ (us : Users) (ids : List ℕ) (say : List ℕ → Message) (q : ℕ) wh
       go [] k = omega (arith, ap length records-none)
       go (x ∷ l) k = omega (arith, sent-length q (say (x ∷ l)), f (x ∷ l) (omega arith))
 
-pub says-most : (us : Users) (ids : List ℕ) (s : Say) (q : ℕ) → length ids ≤ 64 → length (records (own-to us ids (says s) q)) ≤ 138
+says-most : (us : Users) (ids : List ℕ) (s : Say) (q : ℕ) → length ids ≤ 64 → length (records (own-to us ids (says s) q)) ≤ 138
 says-most us ids s q h = own-most us ids (says s) q h (says-length s)
 
 -- the record of what q hears
-pub own-sent : (us : Users) (ids : List ℕ) (s : Say) (q : ℕ) (t : List ℕ) (n : ℕ) → take n t ≡ sieved us (On q) ids → (n ≡ 0 → ⊥) → n ≤ length t
+pub own-sent : (us : Users) (ids : List ℕ) (s : Say) (q : ℕ) (t : List ℕ) (n : ℕ) → take n t ≡ owned-by us q ids → (n ≡ 0 → ⊥) → n ≤ length t
     → (m : List ℕ) → m ≡ wire (says s (take n t)) → length m ≤ 1024 → {out o : List ℕ} {at k : ℕ} → at ≤ 65535
     → Puts out at (guarded at m (framed m q)) o k → Puts out at (records (own-to us ids (says s) q)) o k
 own-sent us ids s q t n e z h m w l a p = rw (own-heard us ids (says s) q t n e z h) (put-sent (says s (take n t)) m w a l q p)
+
+-- its record is no longer than this
+pub sent-most : (ids : List ℕ) (s : Say) (q : ℕ) → length ids ≤ 64 → (m : List ℕ) → m ≡ wire (says s ids) → length m ≤ 1024 → {out o : List ℕ} {at k : ℕ} → at ≤ 65535
+    → Puts out at (guarded at m (framed m q)) o k → k ≤ at + 138
+sent-most ids s q h m w l a p = omega (arith, put-sent (says s ids) m w a l q p .next, sent-length q (says s ids), says-length s ids h)
 
 -- ---- every connection: what is still to come from connection q on
 abbrev pub owning : (us : Users) (ids : List ℕ) (say : (List ℕ → Message)) (q : ℕ) → List ℕ
@@ -121,3 +124,15 @@ module _ (us : Users) (ids : List ℕ) (say : List ℕ → Message) where
   owning-end q h =
       let e : 16 - q ≡ 0 = omega arith in
       rw e records-none
+
+-- all of it is no longer than this
+module _ (us : Users) (ids : List ℕ) (s : Say) (h : length ids ≤ 64) where
+  run-most : (n q : ℕ) → length (records (each (own-to us ids (says s)) (run q n))) ≤ n * 138
+  unfolding each run
+  run-most zero q = omega (arith, ap length records-none)
+  run-most (suc n) q =
+      let e = ap length (records-append (own-to us ids (says s) q) (each (own-to us ids (says s)) (run (suc q) n))) in
+      omega (arith, e, length-append (records (own-to us ids (says s) q)) (records (each (own-to us ids (says s)) (run (suc q) n))), says-most us ids s q h, run-most n (suc q))
+
+  pub own-within : length (records (own us ids (says s))) ≤ 2208
+  own-within = omega (arith, ap length (owning-all us ids (says s)), run-most 16 0)

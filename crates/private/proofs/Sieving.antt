@@ -8,18 +8,18 @@ use native.Mathlib.Omega.{arith}
 use borrow.Author.Tests.{ltb-true, ltb-false, eqb-true, eqb-false, eq-eqb, ne-eqb}
 use lib.Dec.{eqb, ltb}
 use lib.ListN.{length, getD, set, take}
-use lib.Seq.{take-suc, take-suc-set}
-use Rattle.places.specs.Sets.{if_then_else_, keep, any, member, firsts, once, has, those, with, seats}
+use lib.Seq.{take-suc, take-suc-set, getD-set-same, getD-set-other}
+use Rattle.places.specs.Sets.{if_then_else_, keep, any, member, firsts, once, has, those, with, links, seats}
 use Rattle.places.specs.Places.{Place, At, Nowhere, find, found, number}
 use Rattle.places.proofs.Answers.{find-at, find-nowhere}
 use Rattle.places.proofs.Turns.{keep-append}
 use Rattle.places.proofs.Digits.{is-those, those-lt, has-with}
 use Rattle.places.proofs.Marks.{has-none}
-use Rattle.domain.specs.Tables.{Users, users-of, name, attached}
+use Rattle.domain.specs.Tables.{Users, users-of, name, link, attached}
 use Rattle.domain.specs.Channels.{places}
 use Rattle.private.specs.declared.Pick.{Pick}
-use Rattle.private.specs.declared.Pick.the-variants.{New, Attached, Admitted, On}
-use Rattle.private.specs.Sieve.{admitted, picked, sieved}
+use Rattle.private.specs.declared.Pick.the-variants.{New, Attached, Admitted}
+use Rattle.private.specs.Sieve.{admitted, picked, sieved, home, Located, owned-by}
 
 -- ---- one id
 module _ (us : Users) (adm v : ℕ) where
@@ -83,7 +83,6 @@ unfolding sieved picked
 sieved-last us New xs x = once-last xs x
 sieved-last us Attached xs x = keep-last (λ v. found (find (us .ids) v)) xs x
 sieved-last us (Admitted adm) xs x = keep-last (admitted us adm) xs x
-sieved-last us (On q) xs x = keep-last (λ v. found (attached us q v)) xs x
 
 -- ---- the loop over a list
 pub sieve-none : (us : Users) (k : Pick) → [] ≡ sieved us k []
@@ -91,7 +90,6 @@ unfolding sieved once firsts keep
 sieve-none us New = refl
 sieve-none us Attached = refl
 sieve-none us (Admitted adm) = refl
-sieve-none us (On q) = refl
 
 pub keep-yes : (kept : List ℕ) (n x : ℕ) (b : Bool) → b ≡ true → n < length kept → take (n + 1) (set kept n x) ≡ take n kept ++ (if b then x ∷ [] else [])
 keep-yes kept n x b e h = rw (add-one n, e) (take-suc-set kept n x h)
@@ -107,6 +105,53 @@ module _ (us : Users) (k : Pick) (list : List ℕ) (i : ℕ) (h : i < length lis
       z ∙ ap (λ (l : List ℕ). l ++ (if b then getD list i 0 ∷ [] else [])) x
       ∙ ap (λ (a : Bool). sieved us k (take i list) ++ (if a then getD list i 0 ∷ [] else [])) y
       ∙ sym (ap (sieved us k) one ∙ sieved-last us k (take i list) (getD list i 0))
+
+-- ---- those on a connection, by the connections held beside the list
+module _ (us : Users) (u : ℕ) where
+  abbrev at : Place → ℕ
+  at w = elim w [ At i ↦ link us i | Nowhere ↦ links ]
+
+  pub home-at : (i : ℕ) → find (us .ids) u ≡ At i → home us u ≡ link us i
+  unfolding home
+  home-at i e = ap at e
+
+  pub home-nowhere : find (us .ids) u ≡ Nowhere → home us u ≡ 16
+  unfolding home
+  home-nowhere e = ap at e
+
+module _ (us : Users) (u q : ℕ) (h : q < 16) where
+  abbrev on : Place → Place
+  on w = elim w [ At i ↦ if eqb (link us i) q then At i else Nowhere | Nowhere ↦ Nowhere ]
+
+  pub home-is : eqb (home us u) q ≡ found (attached us q u)
+  unfolding home attached found
+  home-is = go (find (us .ids) u)
+    where
+      tested : (b : Bool) (i : ℕ) → b ≡ found (if b then At i else Nowhere)
+      tested true i = refl
+      tested false i = refl
+
+      go : (w : Place) → eqb (at us u w) q ≡ found (on w)
+      go (At i) = tested (eqb (link us i) q) i
+      go Nowhere = ne-eqb links q (λ e. omega arith)
+
+pub located-turn : (us : Users) (list spots : List ℕ) (i x : ℕ) → i < length spots → x ≡ home us (getD list i 0)
+    → ((k : ℕ) → k < i → getD spots k 0 ≡ home us (getD list k 0)) → (k : ℕ) → k < i + 1 → getD (set spots i x) k 0 ≡ home us (getD list k 0)
+located-turn us list spots i x l e f k h = go (eqb k i) refl
+  where
+    go : (b : Bool) → eqb k i ≡ b → getD (set spots i x) k 0 ≡ home us (getD list k 0)
+    go true q = rw (eqb-true k i q) (getD-set-same spots i x 0 l ∙ e)
+    go false q = getD-set-other spots i k x 0 (eqb-false k i q) ∙ f k (omega (arith, eqb-false k i q))
+
+module _ (us : Users) (list spots : List ℕ) (located : Located us list spots) (i q : ℕ) (h : i < length list) (l : q < 16) (before after : List ℕ) (b : Bool) where
+  pub own-turn : before ≡ owned-by us q (take i list) → b ≡ eqb (getD spots i 0) q
+      → after ≡ before ++ (if b then getD list i 0 ∷ [] else []) → after ≡ owned-by us q (take (i + 1) list)
+  own-turn x y z =
+      let one : take (i + 1) list ≡ take i list ++ getD list i 0 ∷ [] = rw (add-one i) (take-suc list i 0 h) in
+      let picks : b ≡ found (attached us q (getD list i 0)) = y ∙ ap (λ (k : ℕ). eqb k q) (located i h) ∙ home-is us (getD list i 0) q l in
+      z ∙ ap (λ (xs : List ℕ). xs ++ (if b then getD list i 0 ∷ [] else [])) x
+      ∙ ap (λ (a : Bool). owned-by us q (take i list) ++ (if a then getD list i 0 ∷ [] else [])) picks
+      ∙ sym (ap (owned-by us q) one ∙ keep-last (λ v. found (attached us q v)) (take i list) (getD list i 0))
 
 -- first each once, then those picked
 pub chosen-is : (us : Users) (k : Pick) (xs ys zs ids : List ℕ) → xs ≡ sieved us k ys → ys ≡ sieved us New zs → zs ≡ ids → xs ≡ sieved us k (once ids)

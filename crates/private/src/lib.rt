@@ -8,10 +8,10 @@ ghost use Rattle.places.specs.Sets.{if_then_else_, once, with, seats};
 ghost use Rattle.records.specs.Records.{records as recordsOf, wire};
 ghost use Rattle.records.specs.Out.{Puts, listing};
 ghost use Rattle.domain.specs.Cells.{kind};
-ghost use Rattle.domain.specs.Tables.{Channels, users-of, channels-of, channel, hosts as hostsOf, at-limit, grant};
+ghost use Rattle.domain.specs.Tables.{Users, Channels, users-of, channels-of, channel, hosts as hostsOf, at-limit, grant};
 ghost use Rattle.domain.specs.Effects.{Effect, ignored as ignoredBy, settle, answered, sends};
 ghost use Rattle.domain.specs.Channels.{convene as conveneOf, owned, manages, disband as disbandOf, places as placesOf, own, admit as admitOf, expel as expelOf};
-ghost use Rattle.private.specs.Sieve.{admitted as admittedIn, picked, sieved, says, own-to};
+ghost use Rattle.private.specs.Sieve.{admitted as admittedIn, picked, sieved, home, Located, owned-by, says, own-to};
 use channels::answers;
 use channels::confirms;
 use domain::answer::Answer;
@@ -143,12 +143,11 @@ pub fn disband(
     a
 }
 
-// Which ids of a list count: those not listed before, the attached, the admitted of a mask of places, those on a connection.
+// Which ids of a list count: those not listed before, the attached, the admitted of a mask of places.
 enum Pick {
     New,
     Attached,
     Admitted(u64),
-    On(u8),
 }
 
 // A user that is admitted, by a mask of places.
@@ -169,7 +168,6 @@ fn picks(names: &[u16; 64], homes: &[u8; 64], k: Pick, before: &[u16], x: u16) -
         Pick::New => !places::columns::member(before, x),
         Pick::Attached => places::columns::find(names, x) < 64,
         Pick::Admitted(adm) => admitted(names, adm, x),
-        Pick::On(q) => answers::initiator(names, homes, q, x) < 64,
     }
 }
 
@@ -234,11 +232,12 @@ fn seats_of(names: &[u16; 64], list: &[u16]) -> u64
     ensures { λ r. ⌜ ((homes : List ℕ) → r ≡ placesOf (users-of (now (names .entry)) homes) (now (list .entry))) ⌝ }
 {
     let ids = &names[..];
+    let free = places::columns::member(list, 0);
     let mut m: u64 = 0;
     let mut i: u8 = 0;
     while i < 64 {
         let j = i as usize;
-        m = seat_one(m, places::columns::member(list, ids[j]), i);
+        m = seat_one(m, places::columns::among(list, free, ids[j]), i);
         i += 1;
     }
     m
@@ -259,21 +258,52 @@ fn compose(m: &mut [u8], s: Say, ids: &[u16]) -> usize
     }
 }
 
+// The connection of user u; 16 where u is not attached.
+fn home_of(names: &[u16; 64], homes: &[u8; 64], u: u16) -> u8
+    ensures { λ r. ⌜ r ≡ home (users-of (now (names .entry)) (now (homes .entry))) u ⌝ }
+{
+    let at = &homes[..];
+    let i = places::columns::find(names, u);
+    if i < at.len() {
+        return at[i];
+    }
+    16
+}
+
+// The connection of each listed user, looked up once for all that is said of them.
+fn locate(names: &[u16; 64], homes: &[u8; 64], list: &[u16], spots: &mut [u8])
+    requires { ⌜ length (now list) ≤ length (now spots) ⌝ }
+    ensures { λ _. ⌜ Located (users-of (now (names .entry)) (now (homes .entry))) (now (list .entry)) (now (spots .exit)) ⌝ }
+{
+    let mut i = 0;
+    while i < list.len() {
+        spots[i] = home_of(names, homes, list[i]);
+        i += 1;
+    }
+}
+
+// Those of a list that are on connection q, in their order; how many they are.
+fn own_of(spots: &[u8], list: &[u16], q: u8, kept: &mut [u16]) -> usize
+    requires { ⌜ (length (now list) ≤ length (now kept)) × (length (now list) ≤ length (now spots)) × (q < 16) ⌝ }
+    ensures { λ r. ⌜ ((us : Users) → Located us (now (list .entry)) (now (spots .entry)) → take r (now (kept .exit)) ≡ owned-by us q (now (list .entry))) × (r ≤ length (now (list .entry))) ⌝ }
+{
+    let mut n = 0;
+    let mut i = 0;
+    while i < list.len() {
+        let here = spots[i] == q;
+        n = keep_one(kept, n, here, list[i]);
+        i += 1;
+    }
+    n
+}
+
 // What connection q hears: its own ids, if it has any.
-fn tell_one(
-    out: &mut [u8],
-    at: usize,
-    names: &[u16; 64],
-    homes: &[u8; 64],
-    s: Say,
-    list: &[u16],
-    q: u8,
-) -> usize
-    requires { ⌜ (at ≤ 65535) × (length (now list) ≤ 64) ⌝ }
-    ensures { λ r. ⌜ Puts (now (out .entry)) at (recordsOf (own-to (users-of (now (names .entry)) (now (homes .entry))) (now (list .entry)) (says s) q)) (now (out .exit)) r ⌝ }
+fn tell_one(out: &mut [u8], at: usize, spots: &[u8], s: Say, list: &[u16], q: u8) -> usize
+    requires { ⌜ (at ≤ 65535) × (length (now list) ≤ 64) × (length (now list) ≤ length (now spots)) × (q < 16) ⌝ }
+    ensures { λ r. ⌜ ((us : Users) → Located us (now (list .entry)) (now (spots .entry)) → Puts (now (out .entry)) at (recordsOf (own-to us (now (list .entry)) (says s) q)) (now (out .exit)) r) × (r ≤ at + 138) ⌝ }
 {
     let mut mine = [0u16; 64];
-    let n = sieve(names, homes, Pick::On(q), list, &mut mine);
+    let n = own_of(spots, list, q, &mut mine);
     if n == 0 {
         return at;
     }
@@ -282,17 +312,29 @@ fn tell_one(
     records::send(out, at, q, &m[..k])
 }
 
-fn tell_all(out: &mut [u8], names: &[u16; 64], homes: &[u8; 64], s: Say, list: &[u16]) -> usize
-    requires { ⌜ length (now list) ≤ 64 ⌝ }
-    ensures { λ r. ⌜ Puts (now (out .entry)) 0 (recordsOf (own (users-of (now (names .entry)) (now (homes .entry))) (now (list .entry)) (says s))) (now (out .exit)) r ⌝ }
+fn tell_all(out: &mut [u8], spots: &[u8], s: Say, list: &[u16]) -> usize
+    requires { ⌜ (length (now list) ≤ 64) × (length (now list) ≤ length (now spots)) ⌝ }
+    ensures { λ r. ⌜ ((us : Users) → Located us (now (list .entry)) (now (spots .entry)) → Puts (now (out .entry)) 0 (recordsOf (own us (now (list .entry)) (says s))) (now (out .exit)) r) × (r ≤ 2208) ⌝ }
 {
     let mut at = 0;
     let mut q: u8 = 0;
     while q < 16 {
-        at = tell_one(out, at, names, homes, s, list, q);
+        at = tell_one(out, at, spots, s, list, q);
         q += 1;
     }
     at
+}
+
+// There is room for all of it. Only a short room is tried: no more than 2,208 octets are ever said.
+fn fits(room: usize, spots: &[u8], s: Say, list: &[u16]) -> bool
+    requires { ⌜ (length (now list) ≤ 64) × (length (now list) ≤ length (now spots)) ⌝ }
+    ensures { λ r. ⌜ ((us : Users) → Located us (now (list .entry)) (now (spots .entry)) → (r ≡ true → length (recordsOf (own us (now (list .entry)) (says s))) ≤ room) × (r ≡ false → room < length (recordsOf (own us (now (list .entry)) (says s))))) ⌝ }
+{
+    if room < 2208 {
+        let total = tell_all(&mut [], spots, s, list);
+        return total <= room;
+    }
+    true
 }
 
 // The same, where there is room for all of it.
@@ -300,14 +342,15 @@ fn tell_own(out: &mut [u8], names: &[u16; 64], homes: &[u8; 64], s: Say, list: &
     requires { ⌜ length (now list) ≤ 64 ⌝ }
     ensures { λ r. ⌜ answered {A = Unit {0}} r tt (now (out .exit)) ≡ sends 0 tt tt (own (users-of (now (names .entry)) (now (homes .entry))) (now (list .entry)) (says s)) (now (out .entry)) ⌝ }
 {
-    let total = tell_all(&mut [], names, homes, s, list);
-    if out.len() < total {
+    let mut spots = [16u8; 64];
+    locate(names, homes, list, &mut spots);
+    if !fits(out.len(), &spots, s, list) {
         return Answer {
             reply: Reply::NoRoom,
             sent: 0,
         };
     }
-    tell_all(out, names, homes, s, list);
+    let total = tell_all(out, &spots, s, list);
     Answer {
         reply: Reply::Done,
         sent: total,

@@ -29,10 +29,11 @@ pub fn understand(octets: &[u8]) -> Understood
     if 42 < number {
         return refused(Reply::BadEncoding);
     }
-    if !messages::may_go_up(number) {
+    let line = messages::entry_of(number);
+    if !messages::goes_up(line) {
         return refused(Reply::MayNotGoUp);
     }
-    if !messages::served(number) {
+    if !messages::is_served(line) {
         return refused(Reply::NotServed);
     }
     let d = reader::decode(octets);

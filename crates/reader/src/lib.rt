@@ -2,10 +2,11 @@
 use messages::LIST_LIMIT;
 use messages::MESSAGE_LIMIT;
 use messages::STRING_LIMIT;
-use messages::count_of;
-use messages::form_of;
-use messages::kind_of;
-use messages::tail_of;
+use messages::count_in;
+use messages::entry_of;
+use messages::form_in;
+use messages::kind_in;
+use messages::tail_in;
 use octets::Got;
 use octets::left_at;
 use octets::read_id;
@@ -20,7 +21,7 @@ ghost use lib.ListN.{length, drop};
 ghost use Rattle.octets.specs.Octets.{anId, aNumber, anOctet, readItems, readTail};
 ghost use Rattle.messages.specs.Limits.{list-limit, message-limit};
 ghost use Rattle.messages.specs.Messages.{code, item};
-ghost use Rattle.messages.specs.Columns.{fieldOf, fieldsOf, tailOf};
+ghost use Rattle.messages.specs.Columns.{packedAt, fieldOf, fieldsOf, tailOf};
 ghost use Rattle.octets.specs.Bits.{takeBits, after};
 ghost use Rattle.octets.specs.Places.{leftAt, bitsAt, behind, Bitwise, cappedOf, inBits, EndsAt};
 ghost use Rattle.reader.specs.Reading.{TakesField, TakesFields, ReadsItems, listed, bodyAt, rowAt, GoesOn, decodeOf};
@@ -142,16 +143,16 @@ pub struct Fields {
     pub values: [u32; 4],
 }
 
-// The first fields of a message.
-fn take_fields(s: &[u8], from: usize, number: u32, count: usize) -> Fields
-    requires { ⌜ (from ≤ length (now s) * 8) × (length (now s) ≤ message-limit) × (count ≤ 4) ⌝ }
+// The first fields of a message, by its number and the line of the table that is looked up for it once.
+fn take_fields(s: &[u8], from: usize, number: u32, line: u32, count: usize) -> Fields
+    requires { ⌜ (from ≤ length (now s) * 8) × (length (now s) ≤ message-limit) × (count ≤ 4) × (line ≡ packedAt number) ⌝ }
     ensures { λ r. ⌜ TakesFields (now (s .entry)) from (fieldsOf number count) count r ⌝ }
 {
     let mut values = [0u32; 4];
     let mut at = from;
     let mut i = 0;
     while i < count {
-        let kind = kind_of(number, i);
+        let kind = kind_in(line, i);
         let g = take_field(s, at, kind);
         match g {
             Got::No(n) => {
@@ -332,11 +333,11 @@ pub fn refused(n: u8) -> Decoded
 }
 
 // The fields of a message, from the bit at on, and what follows them, to its end.
-fn decode_body(s: &[u8], at: usize, count: usize, number: u32) -> Decoded
-    requires { ⌜ (at ≤ length (now s) * 8) × (length (now s) ≤ message-limit) × (count ≤ 4) ⌝ }
+fn decode_body(s: &[u8], at: usize, count: usize, number: u32, line: u32) -> Decoded
+    requires { ⌜ (at ≤ length (now s) * 8) × (length (now s) ≤ message-limit) × (count ≤ 4) × (line ≡ packedAt number) ⌝ }
     ensures { λ r. ⌜ r ≡ decoded (now (s .entry)) (bodyAt (now (s .entry)) at count number) ⌝ }
 {
-    let f = take_fields(s, at, number, count);
+    let f = take_fields(s, at, number, line, count);
     if !f.ok {
         return refused(f.refusal);
     }
@@ -345,7 +346,7 @@ fn decode_body(s: &[u8], at: usize, count: usize, number: u32) -> Decoded
         return refused(5);
     }
     let i = (end + 7) / 8;
-    let kind = tail_of(number);
+    let kind = tail_in(line);
     let t = read_tail(s, i, kind);
     if !t.ok {
         return refused(t.refusal);
@@ -369,11 +370,11 @@ fn decode_body(s: &[u8], at: usize, count: usize, number: u32) -> Decoded
 }
 
 // How many fields a message has beyond those that are always there, and the bit where its fields start; or the refusal of its number.
-fn presence(s: &[u8], at: usize, number: u32) -> Got
-    requires { ⌜ (at ≤ length (now s) * 8) × (length (now s) ≤ message-limit) × (leftAt at ≡ 2) ⌝ }
+fn presence(s: &[u8], at: usize, number: u32, line: u32) -> Got
+    requires { ⌜ (at ≤ length (now s) * 8) × (length (now s) ≤ message-limit) × (leftAt at ≡ 2) × (line ≡ packedAt number) ⌝ }
     ensures { λ r. ⌜ GoesOn (now (s .entry)) at number r ⌝ }
 {
-    let form = form_of(number);
+    let form = form_in(line);
     if 2 < form {
         return Got::No(5);
     }
@@ -391,11 +392,12 @@ fn decode_row(s: &[u8], at: usize, number: u32) -> Decoded
     requires { ⌜ (at ≤ length (now s) * 8) × (length (now s) ≤ message-limit) × (leftAt at ≡ 2) ⌝ }
     ensures { λ r. ⌜ r ≡ decoded (now (s .entry)) (rowAt (now (s .entry)) at number) ⌝ }
 {
-    let count = count_of(number);
-    let g = presence(s, at, number);
+    let line = entry_of(number);
+    let count = count_in(line);
+    let g = presence(s, at, number, line);
     match g {
         Got::No(n) => refused(n),
-        Got::Value(more, next) => decode_body(s, next, count + more as usize, number),
+        Got::Value(more, next) => decode_body(s, next, count + more as usize, number, line),
     }
 }
 

@@ -1,16 +1,17 @@
-use mathlib.Core.Path.{sym}
+use mathlib.Core.Path.{_∙_}
 use borrow.Author.Needs.{needs}
-use Rattle.messages.proofs.ColumnLaws.{up-from}
-use Rattle.messages.specs.Columns.{wayAt}
+use Rattle.messages.proofs.ColumnLaws.{up-at}
 use Rattle.messages.proofs.may_go_up.Statement.{statement}
 use Rattle.messages.proofs.may_go_up.Tie as tie
 
 entry-of-requires : tie.Need-entry-of-requires
 entry-of-requires c κs = search needs
 
+goes-up-requires : tie.Need-goes-up-requires
+goes-up-requires c κs = search needs
+
 returns : tie.Need-returns
-unfolding wayAt
-returns c = rw (c .entry-of .ensures) (sym (up-from (c .before .args .number)))
+returns c = c .goes-up .ensures ∙ up-at _ _ (c .before .entry-of .ensures)
 
 pub may-go-up-spec : {M : Type 1} → statement M
-may-go-up-spec = tie.close (tie.spec entry-of-requires returns)
+may-go-up-spec = tie.close (tie.spec entry-of-requires goes-up-requires returns)

@@ -1,54 +1,19 @@
-use mathlib.Core.Path.{ap₂, _∙_}
-use mathlib.Core.Bool.{Bool}
-use Rattle.domain.specs.declared.token.Holding.{Holding}
-use Rattle.domain.specs.Tables.{users-of, tokens-of, state, at-limit}
-use Rattle.passing.proofs.Asking.{asks-ignored}
-use Rattle.messages.specs.Named.{TIcf}
-use Rattle.domain.specs.Tokens.{inhibit}
+-- The one request of the two.
 use Rattle.domain.specs.Passing.{share-token}
-use Rattle.passing.proofs.Settling.{turns-from}
+use Rattle.passing.specs.Taking.{taken-by, confirmed-by}
 use borrow.Author.Needs.{needs}
 use Rattle.passing.proofs.inhibit.Statement.{statement}
 use Rattle.passing.proofs.inhibit.Tie as tie
 
-asker-requires : tie.Need-asker-requires
-asker-requires c κs = search needs
-
-returns : tie.Need-returns
-unfolding share-token
-returns c = let a = c .before .before .before .args in
-    asks-ignored (users-of (a .names .now) (a .homes .now)) (a .p) (a .u) _ (c .before .asker .ensures .0 (c .if1 .taken)) (tokens-of (a .keys .now) (a .modes .now) (a .values .now)) (a .out .now)
-
-state-requires : tie.Need-state-requires
-state-requires c κs = search needs
-
-full-requires : tie.Need-full-requires
-full-requires c κs = search needs
-
-inhibit-requires : tie.Need-inhibit-requires
-inhibit-requires c κs = search needs
-
-turn-requires : tie.Need-turn-requires
-turn-requires c κs = search needs
+take-requires : tie.Need-take-requires
+take-requires c κs = search needs
 
 same-length : tie.Need-same-length
 same-length c = search needs
 
-returns-2 : tie.Need-returns-2
-unfolding share-token
-returns-2 c = let a = c .before .before .before .before .before .before .before .before .before .before .before .before .before .before .before .before .before .args in
-    turns-from (users-of (a .names .now) (a .homes .now)) (tokens-of (a .keys .now) (a .modes .now) (a .values .now)) (a .p) (a .u) _ (a .k) TIcf (inhibit (at-limit (a .limit) (a .keys .now)) (state (tokens-of (a .keys .now) (a .modes .now) (a .values .now)) (a .k))) _ (a .out .now) (c .before .before .before .before .before .before .before .before .before .before .before .before .before .before .before .asker .ensures .1 (c .before .before .before .before .before .before .before .before .before .before .before .before .before .before .if1 .left))
-    (c .before .before .before .before .before .before .before .inhibit .ensures ∙ ap₂ (λ (b : Bool) (h : Holding). inhibit b h (c .before .before .before .before .before .before .before .before .before .before .before .before .before .before .before .asker .result)) (c .before .before .before .before .before .before .before .before .full .ensures) (c .before .before .before .before .before .before .before .before .before .before .state .ensures)) (c .before .before .turn .ensures)
+returns : tie.Need-returns
+unfolding share-token taken-by confirmed-by
+returns c = c .before .before .take .ensures
 
 pub inhibit-spec : {M : Type 1} → statement M
-inhibit-spec =
-    tie.close
-    (tie.spec
-    asker-requires
-    returns
-    state-requires
-    full-requires
-    inhibit-requires
-    turn-requires
-    same-length
-    returns-2)
+inhibit-spec = tie.close (tie.spec take-requires same-length returns)

@@ -1,6 +1,6 @@
 use Rattle.domain.specs.Tables.{tokens-of}
 use Rattle.domain.specs.Passing.{turn}
-use Rattle.passing.proofs.Settling.{turn-full}
+use Rattle.passing.proofs.Settling.{turn-full, turn-done}
 use borrow.Author.Needs.{needs}
 use Rattle.passing.proofs.turn.Statement.{statement}
 use Rattle.passing.proofs.turn.Tie as tie
@@ -39,9 +39,10 @@ same-length-2 : tie.Need-same-length-2
 same-length-2 c = search needs
 
 returns-3 : tie.Need-returns-3
-unfolding turn
-returns-3 c = let a = c .before .before .before .before .before .before .before .before .before .before .before .before .before .args in
-    rw (c .before .before .before .before .before .before .before .before .before .t2 .given .1, ← c .before .before .before .before .set-state .ensures) (c .before .before .confirm2 .ensures (tokens-of (a .keys .now) (a .modes .now) (a .values .now)) _)
+returns-3 c =
+    let a = c .before .before .before .before .before .before .before .before .before .before .before .before .before .args in
+    let ts = tokens-of (a .keys .now) (a .modes .now) (a .values .now) in
+    turn-done ts _ (a .p) (a .u) (a .i) (a .k) (a .kind) (a .t) _ (a .out .now) (c .before .before .before .before .before .before .before .before .before .t2 .given .1) (c .before .before .before .before .set-state .ensures) (c .before .before .confirm2 .ensures ts _)
 
 pub turn-spec : {M : Type 1} → statement M
 turn-spec =

@@ -1,7 +1,6 @@
-use Rattle.channels.proofs.Initiators.{placed, unplaced}
 use mathlib.Core.Path.{refl}
 use Rattle.private.specs.Sieve.{picked}
-use Rattle.private.proofs.Sieving.{found-is, found-find}
+use Rattle.private.proofs.Sieving.{found-find}
 use borrow.Author.Needs.{needs}
 use Rattle.private.proofs.picks.Statement.{statement}
 use Rattle.private.proofs.picks.Tie as tie
@@ -24,12 +23,6 @@ enum-known-k c = search needs
 admitted-requires : tie.Need-admitted-requires
 admitted-requires c κs = tt
 
-enum-known-k-2 : tie.Need-enum-known-k-2
-enum-known-k-2 c = search needs
-
-initiator-requires : tie.Need-initiator-requires
-initiator-requires c κs = tt
-
 returns : tie.Need-returns
 unfolding picked
 returns c = rw (c .before .enum-told .given .1, c .member .ensures) refl
@@ -42,10 +35,6 @@ returns-3 : tie.Need-returns-3
 unfolding picked
 returns-3 c = rw (c .before .before .k .given .1) (c .admitted .ensures _)
 
-returns-4 : tie.Need-returns-4
-unfolding picked
-returns-4 c = rw (c .before .before .k2 .given .1) (found-is _ _ _ (placed _ _ _ (c .initiator .ensures)) (unplaced _ _ _ (c .initiator .ensures)))
-
 pub picks-spec : {M : Type 1} → statement M
 picks-spec =
     tie.close
@@ -56,9 +45,6 @@ picks-spec =
     find-requires
     enum-known-k
     admitted-requires
-    enum-known-k-2
-    initiator-requires
     returns
     returns-2
-    returns-3
-    returns-4)
+    returns-3)

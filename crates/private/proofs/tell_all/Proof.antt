@@ -1,24 +1,26 @@
 use borrow.Author.Needs.{needs}
+use mathlib.Core.Path.{_≡_, refl}
+use lib.ListN.{length}
 use Prim.Native.Nat.{_-_, _*_, _≤_}
 use native.Mathlib.Omega.{arith}
 use Rattle.records.proofs.Laying.{Onward, onward-start, onward-step, onward-end}
-use Rattle.domain.specs.Tables.{users-of}
-use Rattle.private.specs.Sieve.{says}
-use Rattle.private.proofs.Hearing.{owning, owning-all, owning-next, owning-end, says-most}
+use Rattle.domain.specs.Tables.{Users}
+use Rattle.private.specs.Sieve.{Located, says}
+use Rattle.private.proofs.Hearing.{owning, owning-all, owning-next, owning-end}
 use Rattle.private.proofs.tell_all.Statement.{statement}
 use Rattle.private.proofs.tell_all.Tie as tie
 
 abbrev Inv-loop : tie.InvT-loop
-Inv-loop out₀ names homes s list at₀ q₀ out at q = (q ≤ 16) × (at ≤ q * 138) × Onward out₀ 0 (owning (users-of names homes) list (says s) 0) out at (owning (users-of names homes) list (says s) q)
+Inv-loop out₀ spots s list at₀ q₀ out at q = (q ≤ 16) × (at ≤ q * 138) × (length out ≡ length out₀) × ((us : Users) → Located us list spots → Onward out₀ 0 (owning us list (says s) 0) out at (owning us list (says s) q))
 
 abbrev μ-loop : tie.MeasureT-loop
-μ-loop out₀ names homes s list at₀ q₀ out at q = 16 - q
+μ-loop out₀ spots s list at₀ q₀ out at q = 16 - q
 
 loop-holds : tie.Need-loop-holds Inv-loop μ-loop
-loop-holds c = (search needs, search needs, onward-start _ _ _)
+loop-holds c = (search needs, search needs, refl, λ us at. onward-start _ _ _)
 
 tell-one-requires : tie.Need-tell-one-requires Inv-loop μ-loop
-tell-one-requires c κs = (omega arith, search needs)
+tell-one-requires c κs = (omega arith, search needs, search needs, search needs)
 
 add-q : tie.Need-add-q Inv-loop μ-loop
 add-q c = search needs
@@ -27,13 +29,20 @@ loop-less : tie.Need-loop-less Inv-loop μ-loop
 loop-less c = search needs
 
 loop-again : tie.Need-loop-again Inv-loop μ-loop
-loop-again c = (search needs, omega (arith, c .before .before .tell-one .ensures .next, says-most (users-of (c .before .before .before .before .before .before .before .before .args .names .now) (c .before .before .before .before .before .before .before .before .args .homes .now)) (c .before .before .before .before .before .before .before .before .args .list .now) (c .before .before .before .before .before .before .before .before .args .s) (c .before .before .before .before .before .loop .q) (c .before .before .before .before .before .before .before .before .pre)), onward-step _ _ (c .before .before .before .before .before .loop .inv .2) (owning-next _ _ _ _ (c .before .before .before .before .loop-test .taken)) (c .before .before .tell-one .ensures))
+loop-again c =
+    let b = c .before .before .before .before .before .loop in
+    let r = c .before .before .tell-one in (
+      search needs,
+      omega (arith, r .ensures .1),
+      search needs,
+      λ us at. onward-step _ _ (b .inv .3 us at) (owning-next _ _ _ _ (search needs)) (r .ensures .0 us at),
+    )
 
 same-length : tie.Need-same-length Inv-loop μ-loop
-same-length c = c .before .loop .inv .2 .size
+same-length c = search needs
 
 returns : tie.Need-returns Inv-loop μ-loop
-returns c = rw (← owning-all _ _ _) (onward-end (c .before .loop .inv .2) (owning-end _ _ _ _ (c .loop-test .left)))
+returns c = (λ us at. rw (← owning-all us _ _) (onward-end (c .before .loop .inv .3 us at) (owning-end us _ _ _ (c .loop-test .left))), omega arith)
 
 pub tell-all-spec : {M : Type 1} → statement M
 tell-all-spec =

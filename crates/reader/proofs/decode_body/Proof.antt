@@ -1,3 +1,5 @@
+use mathlib.Core.Path.{_∙_}
+use Rattle.messages.proofs.ColumnLaws.{tail-at}
 use borrow.Author.Needs.{needs}
 use borrow.Author.Tests.{not-true, not-false}
 use Rattle.reader.proofs.HeldLaws.{refused-is}
@@ -26,8 +28,8 @@ returns-2 c = refused-is _ _ _ _ (c .refused2 .ensures) (body-pad _ _ _ _ (c .be
 add-i : tie.Need-add-i
 add-i c = search needs
 
-tail-of-requires : tie.Need-tail-of-requires
-tail-of-requires c κs = search needs
+tail-in-requires : tie.Need-tail-in-requires
+tail-in-requires c κs = search needs
 
 read-tail-requires : tie.Need-read-tail-requires
 read-tail-requires c κs = search needs
@@ -36,16 +38,16 @@ refused-requires-3 : tie.Need-refused-requires-3
 refused-requires-3 c κs = search needs
 
 returns-3 : tie.Need-returns-3
-returns-3 c = refused-is _ _ _ _ (c .refused3 .ensures) (body-tail-no _ _ _ _ (c .before .before .before .before .before .before .before .before .before .take-fields .result) (c .before .before .before .before .before .before .before .before .before .take-fields .ensures) (not-false _ (c .before .before .before .before .before .before .before .if1 .left)) (c .before .before .before .before .before .before .bits-at .result) (c .before .before .before .before .before .before .bits-at .ensures .0) (c .before .before .before .before .before .if2 .left) _ (c .before .before .before .before .tail-of .ensures) (c .before .before .before .read-tail .result) (c .before .before .before .read-tail .ensures) (not-true _ (c .before .if3 .taken)))
+returns-3 c = refused-is _ _ _ _ (c .refused3 .ensures) (body-tail-no _ _ _ _ (c .before .before .before .before .before .before .before .before .before .take-fields .result) (c .before .before .before .before .before .before .before .before .before .take-fields .ensures) (not-false _ (c .before .before .before .before .before .before .before .if1 .left)) (c .before .before .before .before .before .before .bits-at .result) (c .before .before .before .before .before .before .bits-at .ensures .0) (c .before .before .before .before .before .if2 .left) _ (c .before .before .before .before .tail-in .ensures ∙ tail-at _ _ (c .before .before .before .before .before .before .before .before .before .before .before .pre .3)) (c .before .before .before .read-tail .result) (c .before .before .before .read-tail .ensures) (not-true _ (c .before .if3 .taken)))
 
 refused-requires-4 : tie.Need-refused-requires-4
 refused-requires-4 c κs = search needs
 
 returns-4 : tie.Need-returns-4
-returns-4 c = refused-is _ _ _ _ (c .refused4 .ensures) (body-over _ _ _ _ (c .before .before .before .before .before .before .before .before .before .before .before .take-fields .result) (c .before .before .before .before .before .before .before .before .before .before .before .take-fields .ensures) (not-false _ (c .before .before .before .before .before .before .before .before .before .if1 .left)) (c .before .before .before .before .before .before .before .before .bits-at .result) (c .before .before .before .before .before .before .before .before .bits-at .ensures .0) (c .before .before .before .before .before .before .before .if2 .left) _ (c .before .before .before .before .before .before .tail-of .ensures) (c .before .before .before .before .before .read-tail .result) (c .before .before .before .before .before .read-tail .ensures) (not-false _ (c .before .before .before .if3 .left)) (c .before .if4 .taken))
+returns-4 c = refused-is _ _ _ _ (c .refused4 .ensures) (body-over _ _ _ _ (c .before .before .before .before .before .before .before .before .before .before .before .take-fields .result) (c .before .before .before .before .before .before .before .before .before .before .before .take-fields .ensures) (not-false _ (c .before .before .before .before .before .before .before .before .before .if1 .left)) (c .before .before .before .before .before .before .before .before .bits-at .result) (c .before .before .before .before .before .before .before .before .bits-at .ensures .0) (c .before .before .before .before .before .before .before .if2 .left) _ (c .before .before .before .before .before .before .tail-in .ensures ∙ tail-at _ _ (c .before .before .before .before .before .before .before .before .before .before .before .before .before .pre .3)) (c .before .before .before .before .before .read-tail .result) (c .before .before .before .before .before .read-tail .ensures) (not-false _ (c .before .before .before .if3 .left)) (c .before .if4 .taken))
 
 returns-5 : tie.Need-returns-5
-returns-5 c = body-is _ _ _ _ (c .before .before .before .before .before .before .before .before .before .before .before .before .take-fields .result) (c .before .before .before .before .before .before .before .before .before .before .before .before .take-fields .ensures) (not-false _ (c .before .before .before .before .before .before .before .before .before .before .if1 .left)) (c .before .before .before .before .before .before .before .before .before .bits-at .result) (c .before .before .before .before .before .before .before .before .before .bits-at .ensures .0) (c .before .before .before .before .before .before .before .before .if2 .left) _ (c .before .before .before .before .before .before .before .tail-of .ensures) (c .before .before .before .before .before .before .read-tail .result) (c .before .before .before .before .before .before .read-tail .ensures) (not-false _ (c .before .before .before .before .if3 .left)) (c .before .before .if4 .left)
+returns-5 c = body-is _ _ _ _ (c .before .before .before .before .before .before .before .before .before .before .before .before .take-fields .result) (c .before .before .before .before .before .before .before .before .before .before .before .before .take-fields .ensures) (not-false _ (c .before .before .before .before .before .before .before .before .before .before .if1 .left)) (c .before .before .before .before .before .before .before .before .before .bits-at .result) (c .before .before .before .before .before .before .before .before .before .bits-at .ensures .0) (c .before .before .before .before .before .before .before .before .if2 .left) _ (c .before .before .before .before .before .before .before .tail-in .ensures ∙ tail-at _ _ (c .before .before .before .before .before .before .before .before .before .before .before .before .before .before .pre .3)) (c .before .before .before .before .before .before .read-tail .result) (c .before .before .before .before .before .before .read-tail .ensures) (not-false _ (c .before .before .before .before .if3 .left)) (c .before .before .if4 .left)
 
 pub decode-body-spec : {M : Type 1} → statement M
 decode-body-spec =
@@ -58,7 +60,7 @@ decode-body-spec =
     refused-requires-2
     returns-2
     add-i
-    tail-of-requires
+    tail-in-requires
     read-tail-requires
     refused-requires-3
     returns-3

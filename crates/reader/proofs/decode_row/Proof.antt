@@ -1,12 +1,16 @@
-use mathlib.Core.Path.{sym}
+use mathlib.Core.Path.{_∙_}
+use Rattle.messages.proofs.ColumnLaws.{count-at}
 use Rattle.reader.proofs.HeldLaws.{refused-is, decoded-as}
 use Rattle.reader.proofs.RowLaws.{on-no, on-body}
 use borrow.Author.Needs.{needs}
 use Rattle.reader.proofs.decode_row.Statement.{statement}
 use Rattle.reader.proofs.decode_row.Tie as tie
 
-count-of-requires : tie.Need-count-of-requires
-count-of-requires c κs = search needs
+entry-of-requires : tie.Need-entry-of-requires
+entry-of-requires c κs = search needs
+
+count-in-requires : tie.Need-count-in-requires
+count-in-requires c κs = search needs
 
 presence-requires : tie.Need-presence-requires
 presence-requires c κs = search needs
@@ -27,19 +31,20 @@ add-decode-body : tie.Need-add-decode-body
 add-decode-body c = search needs
 
 decode-body-requires : tie.Need-decode-body-requires
-decode-body-requires c κs = let b = on-body _ _ _ _ (c .before .before .before .presence .ensures) _ _ (c .before .g2 .given .1) in (b .1, search needs, rw (c .before .before .before .before .count-of .ensures .0) (b .2))
+decode-body-requires c κs = let b = on-body _ _ _ _ (c .before .before .before .presence .ensures) _ _ (c .before .g2 .given .1) in (b .1, search needs, rw (c .before .before .before .before .count-in .ensures ∙ count-at _ _ (c .before .before .before .before .before .entry-of .ensures)) (b .2), c .before .before .before .before .before .entry-of .ensures)
 
 returns : tie.Need-returns
 returns c = refused-is _ _ _ _ (c .refused .ensures) (on-no _ _ _ _ (c .before .before .before .before .presence .ensures) _ (c .before .before .g .given .1))
 
 returns-2 : tie.Need-returns-2
-returns-2 c = decoded-as _ _ _ (c .decode-body .ensures) (rw (c .before .before .before .before .before .count-of .ensures .0) (on-body _ _ _ _ (c .before .before .before .before .presence .ensures) _ _ (c .before .before .g2 .given .1) .0))
+returns-2 c = decoded-as _ _ _ (c .decode-body .ensures) (rw (c .before .before .before .before .before .count-in .ensures ∙ count-at _ _ (c .before .before .before .before .before .before .entry-of .ensures)) (on-body _ _ _ _ (c .before .before .before .before .presence .ensures) _ _ (c .before .before .g2 .given .1) .0))
 
 pub decode-row-spec : {M : Type 1} → statement M
 decode-row-spec =
     tie.close
     (tie.spec
-    count-of-requires
+    entry-of-requires
+    count-in-requires
     presence-requires
     enum-known-g
     refused-requires

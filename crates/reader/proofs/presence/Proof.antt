@@ -1,28 +1,29 @@
 use native.Mathlib.Omega.{arith}
 use mathlib.Core.Path.{sym, _∙_}
 use Rattle.reader.proofs.RowLaws.{on-unknown, on-uncovered, on-plain, on-optional}
+use Rattle.messages.proofs.ColumnLaws.{form-at}
 use borrow.Author.Needs.{needs}
 use Rattle.reader.proofs.presence.Statement.{statement}
 use Rattle.reader.proofs.presence.Tie as tie
 
-form-of-requires : tie.Need-form-of-requires
-form-of-requires c κs = search needs
+form-in-requires : tie.Need-form-in-requires
+form-in-requires c κs = search needs
 
 returns : tie.Need-returns
-returns c = on-unknown _ _ _ (rw (c .before .form-of .ensures) at (c .if1 .taken))
+returns c = on-unknown _ _ _ (rw (c .before .form-in .ensures ∙ form-at (c .before .before .before .args .number) _ (c .before .before .before .pre .3)) at (c .if1 .taken))
 
 returns-2 : tie.Need-returns-2
-returns-2 c = on-uncovered _ _ _ (sym (c .before .before .form-of .ensures) ∙ c .if2 .taken)
+returns-2 c = on-uncovered _ _ _ (sym (c .before .before .form-in .ensures ∙ form-at (c .before .before .before .before .args .number) _ (c .before .before .before .before .pre .3)) ∙ c .if2 .taken)
 
 returns-3 : tie.Need-returns-3
-returns-3 c = on-plain _ _ _ (sym (c .before .before .before .form-of .ensures) ∙ c .if3 .taken) (search needs) (search needs)
+returns-3 c = on-plain _ _ _ (sym (c .before .before .before .form-in .ensures ∙ form-at (c .before .before .before .before .before .args .number) _ (c .before .before .before .before .before .pre .3)) ∙ c .if3 .taken) (search needs) (search needs)
 
 take-code-requires : tie.Need-take-code-requires
 take-code-requires c κs = search needs
 
 returns-4 : tie.Need-returns-4
-returns-4 c = on-optional _ _ _ (omega (arith, c .before .before .before .before .form-of .ensures, c .before .before .before .if1 .left, c .before .before .if2 .left, c .before .if3 .left)) (search needs) _ (c .take-code .ensures)
+returns-4 c = on-optional _ _ _ (omega (arith, c .before .before .before .before .form-in .ensures ∙ form-at (c .before .before .before .before .before .before .args .number) _ (c .before .before .before .before .before .before .pre .3), c .before .before .before .if1 .left, c .before .before .if2 .left, c .before .if3 .left)) (search needs) _ (c .take-code .ensures)
 
 pub presence-spec : {M : Type 1} → statement M
 presence-spec =
-    tie.close (tie.spec form-of-requires returns returns-2 returns-3 take-code-requires returns-4)
+    tie.close (tie.spec form-in-requires returns returns-2 returns-3 take-code-requires returns-4)

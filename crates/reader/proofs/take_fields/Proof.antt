@@ -1,4 +1,6 @@
+use mathlib.Core.Path.{_∙_}
 use borrow.Author.Needs.{needs}
+use Rattle.messages.proofs.ColumnLaws.{kind-at}
 use Prim.Native.Nat.{_-_}
 use Rattle.messages.specs.Columns.{fieldsOf}
 use Rattle.reader.proofs.Loop.{Sofar, sofar-none, fields-no, fields-more, fields-all}
@@ -6,16 +8,16 @@ use Rattle.reader.proofs.take_fields.Statement.{statement}
 use Rattle.reader.proofs.take_fields.Tie as tie
 
 abbrev Inv-loop : tie.InvT-loop
-Inv-loop s from number count values₀ at₀ i₀ values at i = Sofar s from (fieldsOf number count) values at i
+Inv-loop s from number line count values₀ at₀ i₀ values at i = Sofar s from (fieldsOf number count) values at i
 
 abbrev μ-loop : tie.MeasureT-loop
-μ-loop s from number count values₀ at₀ i₀ values at i = count - i
+μ-loop s from number line count values₀ at₀ i₀ values at i = count - i
 
 loop-holds : tie.Need-loop-holds Inv-loop μ-loop
 loop-holds c = search (needs, sofar-none)
 
-kind-of-requires : tie.Need-kind-of-requires Inv-loop μ-loop
-kind-of-requires c κs = search needs
+kind-in-requires : tie.Need-kind-in-requires Inv-loop μ-loop
+kind-in-requires c κs = search needs
 
 take-field-requires : tie.Need-take-field-requires Inv-loop μ-loop
 take-field-requires c κs = search needs
@@ -24,7 +26,7 @@ enum-known-g : tie.Need-enum-known-g Inv-loop μ-loop
 enum-known-g c = search needs
 
 returns : tie.Need-returns Inv-loop μ-loop
-returns c = fields-no _ (c .before .before .before .before .before .before .loop .inv) (search needs) (c .before .before .before .before .before .loop-test .taken) _ (c .before .before .before .before .kind-of .ensures) _ (c .before .before .before .take-field .ensures) _ (c .before .g .given .1)
+returns c = fields-no _ (c .before .before .before .before .before .before .loop .inv) (search needs) (c .before .before .before .before .before .loop-test .taken) _ (c .before .before .before .before .kind-in .ensures ∙ kind-at _ _ (c .before .before .before .before .before .before .before .before .pre .3) _) _ (c .before .before .before .take-field .ensures) _ (c .before .g .given .1)
 
 enum-known-g-2 : tie.Need-enum-known-g-2 Inv-loop μ-loop
 enum-known-g-2 c = search needs
@@ -42,7 +44,7 @@ loop-less : tie.Need-loop-less Inv-loop μ-loop
 loop-less c = search needs
 
 loop-again : tie.Need-loop-again Inv-loop μ-loop
-loop-again c = fields-more _ (c .before .before .before .before .before .before .loop .inv) (search needs) (c .before .before .before .before .before .loop-test .taken) _ (c .before .before .before .before .kind-of .ensures) _ (c .before .before .before .take-field .ensures) _ _ (c .before .g2 .given .1)
+loop-again c = fields-more _ (c .before .before .before .before .before .before .loop .inv) (search needs) (c .before .before .before .before .before .loop-test .taken) _ (c .before .before .before .before .kind-in .ensures ∙ kind-at _ _ (c .before .before .before .before .before .before .before .before .pre .3) _) _ (c .before .before .before .take-field .ensures) _ _ (c .before .g2 .given .1)
 
 returns-2 : tie.Need-returns-2 Inv-loop μ-loop
 returns-2 c = fields-all _ (c .before .loop .inv) (search needs) (c .loop-test .left)
@@ -54,7 +56,7 @@ take-fields-spec =
     Inv-loop
     μ-loop
     loop-holds
-    kind-of-requires
+    kind-in-requires
     take-field-requires
     enum-known-g
     returns

@@ -16,8 +16,11 @@ Inv-loop ids x i₀ i = (i ≤ length ids) × (first 0 x ids ≡ first i x (drop
 abbrev μ-loop : tie.MeasureT-loop
 μ-loop ids x i₀ i = length ids - i
 
+skipped-requires : tie.Need-skipped-requires Inv-loop μ-loop
+skipped-requires c κs = search needs
+
 loop-holds : tie.Need-loop-holds Inv-loop μ-loop
-loop-holds c = (search needs, refl)
+loop-holds c = (search needs, c .skipped .ensures .1)
 
 mul-if1 : tie.Need-mul-if1 Inv-loop μ-loop
 mul-if1 c = search needs
@@ -42,7 +45,7 @@ returns-2 : tie.Need-returns-2 Inv-loop μ-loop
 unfolding number
 returns-2 c =
     let b = c .before .loop in
-    let a = c .before .before .args in
+    let a = c .before .before .before .before .args in
     let e : b .i ≡ length (a .ids .now) = omega arith in
     e ∙ sym (ap (number (length (a .ids .now))) (b .inv .1 ∙ first-none _ _ _ (search needs)))
 
@@ -52,6 +55,7 @@ first-spec =
     (tie.spec
     Inv-loop
     μ-loop
+    skipped-requires
     loop-holds
     mul-if1
     shared-slice-read-if1

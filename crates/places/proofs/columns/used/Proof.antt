@@ -1,14 +1,12 @@
 -- The places passed are counted.
 use Prim.Native.Nat.{ℕ, _+_, _≤_, _-_}
 use mathlib.Core.Path.{ap₂, _≡_, refl, sym, _∙_}
-use mathlib.Core.List.{[], _∷_}
 use native.Mathlib.Omega.{arith}
-use native.Mathlib.Numerals.{add-one}
-use lib.ListN.{length, take, getD}
+use lib.ListN.{length, take, length-take, length-drop}
 use borrow.Author.Needs.{needs}
 use Rattle.places.specs.Sets.{keep}
 use Rattle.places.specs.Places.{used}
-use Rattle.places.proofs.Turns.{used-turn, used-end, used-within}
+use Rattle.places.proofs.Turns.{used-part, part-within, used-end}
 use Rattle.places.proofs.columns.used.Statement.{statement}
 use Rattle.places.proofs.columns.used.Tie as tie
 
@@ -22,34 +20,46 @@ loop-holds : tie.Need-loop-holds Inv-loop μ-loop
 unfolding used keep
 loop-holds c = (search needs, search needs, refl)
 
-mul-in-use : tie.Need-mul-in-use Inv-loop μ-loop
-mul-in-use c = search needs
+part-end-requires : tie.Need-part-end-requires Inv-loop μ-loop
+part-end-requires c κs = search needs
 
-shared-slice-read-in-use : tie.Need-shared-slice-read-in-use Inv-loop μ-loop
-shared-slice-read-in-use c = search needs
+mul-used-of : tie.Need-mul-used-of Inv-loop μ-loop
+mul-used-of c = search needs
 
-in-use-requires : tie.Need-in-use-requires Inv-loop μ-loop
-in-use-requires c κs = search needs
+sub-used-of : tie.Need-sub-used-of Inv-loop μ-loop
+sub-used-of c = search needs
+
+part-used-of-start : tie.Need-part-used-of-start Inv-loop μ-loop
+part-used-of-start c = search needs
+
+part-used-of-end : tie.Need-part-used-of-end Inv-loop μ-loop
+part-used-of-end c = search needs
+
+used-of-requires : tie.Need-used-of-requires Inv-loop μ-loop
+used-of-requires c κs = simp (length-take, length-drop) (omega arith)
+
+cast-n : tie.Need-cast-n Inv-loop μ-loop
+cast-n c = search needs
 
 add-n : tie.Need-add-n Inv-loop μ-loop
 add-n c =
-    let b = c .before .before .before .loop in
-    omega (arith, c .in-use .ensures, used-within (getD (c .before .before .before .before .before .args .ids .now) (b .i) 0 ∷ []))
-
-add-i : tie.Need-add-i Inv-loop μ-loop
-add-i c = search needs
+    let b = c .before .before .before .before .loop in
+    let ids = c .before .before .before .before .before .before .args .ids .now in
+    let to = c .before .before .part-end in
+    omega (arith, b .inv .1, to .ensures, c .used-of .ensures, part-within ids (b .i) (to .result - b .i))
 
 loop-less : tie.Need-loop-less Inv-loop μ-loop
-loop-less c = search needs
+loop-less c = omega (arith, c .before .before .part-end .ensures .3 (omega arith))
 
 loop-again : tie.Need-loop-again Inv-loop μ-loop
 loop-again c =
-    let b = c .before .before .before .loop in
-    let ids = c .before .before .before .before .before .args .ids .now in
-    let one = used-within (getD ids (b .i) 0 ∷ []) in (
+    let b = c .before .before .before .before .loop in
+    let ids = c .before .before .before .before .before .before .args .ids .now in
+    let to = c .before .before .part-end in
+    let e : b .i + (to .result - b .i) ≡ to .result = omega (arith, to .ensures .2) in (
       search needs,
-      omega (arith, c .in-use .ensures, one),
-      ap₂ (λ (x y : ℕ). x + y) (b .inv .2) (c .in-use .ensures) ∙ sym (rw add-one (used-turn ids (b .i) (search needs))),
+      omega (arith, b .inv .1, to .ensures .2, c .used-of .ensures, part-within ids (b .i) (to .result - b .i)),
+      ap₂ (λ (x y : ℕ). x + y) (b .inv .2) (c .used-of .ensures) ∙ sym (rw e at (used-part ids (b .i) (to .result - b .i))),
     )
 
 returns : tie.Need-returns Inv-loop μ-loop
@@ -62,11 +72,14 @@ used-spec =
     Inv-loop
     μ-loop
     loop-holds
-    mul-in-use
-    shared-slice-read-in-use
-    in-use-requires
+    part-end-requires
+    mul-used-of
+    sub-used-of
+    part-used-of-start
+    part-used-of-end
+    used-of-requires
+    cast-n
     add-n
-    add-i
     loop-less
     loop-again
     returns)

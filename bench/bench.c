@@ -1,0 +1,329 @@
+/* The same events through the proved provider and through the plain one: every reply, count and octet sent is compared; then each is timed, and the stack that it touches is measured. */
+#define _GNU_SOURCE
+#include "plain.h"
+#include <pthread.h>
+#include <stdint.h>
+#include <stdio.h>
+#include <stdlib.h>
+#include <string.h>
+#include <sys/mman.h>
+#include <time.h>
+
+/* The proved provider's columns, as crates/measured lends them. */
+static struct columns {
+    uint16_t links;
+    uint16_t names[64];
+    uint8_t homes[64];
+    uint16_t ids[128];
+    uint8_t roles[128], chairs[128];
+    uint64_t guests[128];
+    uint16_t marks[128];
+    uint16_t keys[64];
+    uint8_t modes[64];
+    uint64_t values[64];
+} ours;
+#define COLUMNS uint16_t *, uint16_t *, uint8_t *, uint16_t *, uint8_t *, uint8_t *, uint64_t *, uint16_t *, uint16_t *, uint8_t *, uint64_t *
+#define LENT &ours.links, ours.names, ours.homes, ours.ids, ours.roles, ours.chairs, ours.guests, ours.marks, ours.keys, ours.modes, ours.values
+uint32_t begin_domain(COLUMNS);
+uint32_t open_link(uint16_t *links, uint8_t p);
+uint32_t lose_link(COLUMNS, uint8_t p, uint8_t *room, size_t length);
+uint32_t hear_message(COLUMNS, uint8_t p, const uint8_t *octets, size_t length, uint8_t *room, size_t rooms);
+uint32_t read_message(const uint8_t *octets, size_t length, uint32_t *values, uint16_t *list);
+uint32_t read_many(const uint8_t *octets, size_t length, uint32_t rounds);
+uint32_t write_many(uint8_t *room, size_t length, uint32_t number, uint32_t rounds);
+uint32_t compose_many(uint8_t *room, size_t length, uint32_t rounds);
+uint32_t pass_many(const uint8_t *grab, size_t grabs, const uint8_t *release, size_t releases, uint32_t rounds);
+
+static struct plain plain;
+
+enum { START = 3, ROOM = 17200, MOST = 20000 };
+struct event {
+    uint8_t kind, link;
+    const uint8_t *octets;
+    size_t length;
+};
+static struct event events[MOST];
+static size_t count;
+static uint8_t our_room[ROOM], plain_room[ROOM];
+static volatile uint32_t sink;
+static uint32_t rounds = 1000;
+
+/* An event through each provider: the octets sent, and the reply in the last octet. */
+static inline uint32_t by_ours(const struct event *e, size_t room)
+{
+    switch (e->kind) {
+    case 0: return open_link(&ours.links, e->link);
+    case 1: return lose_link(LENT, e->link, our_room, room);
+    case 2: return hear_message(LENT, e->link, e->octets, e->length, our_room, room);
+    default: return begin_domain(LENT);
+    }
+}
+
+static inline uint32_t by_plain(const struct event *e, size_t room)
+{
+    size sent = 0;
+    int reply;
+    switch (e->kind) {
+    case 0: reply = plain_open(&plain, e->link); break;
+    case 1: reply = plain_lose(&plain, e->link, plain_room, room, &sent); break;
+    case 2: reply = plain_message(&plain, e->link, e->octets, e->length, plain_room, room, &sent); break;
+    default: reply = plain_start(&plain, 128, 64, 64);
+    }
+    return (uint32_t)sent * 256 + (uint32_t)reply;
+}
+
+static size_t in_use(const uint16_t *ids, size_t n)
+{
+    size_t k = 0;
+    for (size_t i = 0; i < n; i++)
+        k += ids[i] != 0;
+    return k;
+}
+
+static void fail(const char *what, size_t i)
+{
+    printf("event %zu: %s differs\n", i, what);
+    exit(1);
+}
+
+/* Plays one event by both and compares the answers, every octet of the rooms, and what is in use. */
+static void compare_one(size_t i, size_t room)
+{
+    uint32_t a = by_ours(&events[i], room), b = by_plain(&events[i], room);
+    if (a != b) {
+        printf("reply %u, sent %u; plain: reply %u, sent %u\n", a % 256, a / 256, b % 256, b / 256);
+        fail("the answer", i);
+    }
+    if (memcmp(our_room, plain_room, ROOM))
+        fail("the room", i);
+    if (ours.links != plain.open || in_use(ours.names, 64) != plain.users || in_use(ours.ids, 128) != plain.channels || in_use(ours.keys, 64) != plain.tokens)
+        fail("what is in use", i);
+}
+
+/* Every event with each room it could fail to fit in: one octet too little, which leaves all as it was, then enough. */
+static void compare(void)
+{
+    size_t octets = 0, replies[12] = {0};
+    for (size_t i = 0; i < count; i++) {
+        struct columns before = ours;
+        struct plain kept = plain;
+        memset(our_room, 0x5A, ROOM);
+        memset(plain_room, 0x5A, ROOM);
+        uint32_t a = by_ours(&events[i], ROOM);
+        ours = before;
+        plain = kept;
+        memset(our_room, 0x5A, ROOM);
+        if (a / 256 > 0)
+            compare_one(i, a / 256 - 1);
+        compare_one(i, ROOM);
+        octets += a / 256;
+        replies[a % 256]++;
+    }
+    printf("compared: %zu events, %zu octets sent, no difference; replies", count, octets);
+    for (int r = 0; r < 12; r++)
+        printf(" %d:%zu", r, replies[r]);
+    printf("\n");
+}
+
+/* The frames of a file, behind the start of a fresh domain. */
+static void load(const char *path)
+{
+    FILE *f = fopen(path, "rb");
+    if (!f) {
+        perror(path);
+        exit(1);
+    }
+    static uint8_t store[1u << 22];
+    static size_t filled;
+    uint8_t *s = store + filled;
+    size_t n = fread(s, 1, sizeof store - filled, f), i = 0;
+    fclose(f);
+    filled += n;
+    events[count++] = (struct event){START, 0, 0, 0};
+    while (i + 5 <= n && count < MOST) {
+        size_t k = s[i] * 256u + s[i + 1];
+        if (k < 3 || i + 2 + k > n || s[i + 2] != 1 || s[i + 3] > 2)
+            break;
+        events[count++] = (struct event){s[i + 3], s[i + 4], s + i + 5, k - 3};
+        i += 2 + k;
+    }
+}
+
+static const uint8_t grab[] = {0x74, 0x00, 0x06, 0x00, 0x00};
+static const uint8_t first_grab[] = {0x74, 0x00, 0x00, 0x00, 0x00};    /* TGrq by 1001 for token 1 */
+static const uint8_t first_release[] = {0x9C, 0x00, 0x00, 0x00, 0x00}; /* TRrq */
+static uint8_t detach[131] = {0x30, 0x00, 0x40};                       /* DUrq of 64 ids */
+static uint8_t room[16];
+
+static void our_mix(void) { for (size_t i = 0; i < count; i++) sink = by_ours(&events[i], ROOM); }
+static void plain_mix(void) { for (size_t i = 0; i < count; i++) sink = by_plain(&events[i], ROOM); }
+static void our_grab(void) { sink = read_many(grab, sizeof grab, rounds); }
+static void plain_grab(void) { sink = plain_read_many(grab, sizeof grab, rounds); }
+static void our_detach(void) { sink = read_many(detach, sizeof detach, rounds); }
+static void plain_detach(void) { sink = plain_read_many(detach, sizeof detach, rounds); }
+static void our_write(void) { sink = write_many(room, sizeof room, 30, rounds); }
+static void plain_write_checked(void) { sink = plain_write_many(room, sizeof room, 30, rounds); }
+static void our_pass(void) { sink = pass_many(first_grab, sizeof first_grab, first_release, sizeof first_release, rounds); }
+static void plain_pass(void) { sink = plain_pass_many(first_grab, sizeof first_grab, first_release, sizeof first_release, rounds); }
+static void nothing(void) {}
+
+static double now(void)
+{
+    struct timespec t;
+    clock_gettime(CLOCK_THREAD_CPUTIME_ID, &t);
+    return t.tv_sec * 1e9 + t.tv_nsec;
+}
+
+static double once(void (*f)(void))
+{
+    double a = now();
+    f();
+    return now() - a;
+}
+
+static void *start(void *f)
+{
+    ((void (*)(void))f)();
+    return 0;
+}
+
+/* f runs on a thread whose stack is filled with a pattern; how far it was written. */
+static size_t touched(void (*f)(void))
+{
+    size_t size = 1u << 20, i = 0;
+    unsigned char *s = mmap(0, size, PROT_READ | PROT_WRITE, MAP_PRIVATE | MAP_ANONYMOUS, -1, 0);
+    memset(s, 0xA5, size);
+    pthread_attr_t a;
+    pthread_attr_init(&a);
+    pthread_attr_setstack(&a, s, size);
+    pthread_t t;
+    if (pthread_create(&t, &a, start, (void *)f))
+        abort();
+    pthread_join(t, 0);
+    while (i < size && s[i] == 0xA5)
+        i++;
+    munmap(s, size);
+    return size - i;
+}
+
+/* The least time of many tries of each, taken in turn so that both meet the same machine. */
+static void report(const char *name, void (*f)(void), void (*g)(void), size_t each, int tries)
+{
+    double a = 1e300, b = 1e300;
+    rounds = 1000;
+    if (!each)
+        each = rounds;
+    f();
+    uint32_t x = sink;
+    g();
+    if (x != sink) {
+        printf("%s: the sums differ\n", name);
+        exit(1);
+    }
+    for (int i = 0; i < tries; i++) {
+        double t = once(f), u = once(g);
+        a = t < a ? t : a;
+        b = u < b ? u : b;
+    }
+    a /= each;
+    b /= each;
+    rounds = 1;
+    size_t base = touched(nothing);
+    printf("%-28s %9.1f %12.0f %7zu %9.1f %12.0f %7zu %7.2f\n", name, a, 1e9 / a, touched(f) - base, b, 1e9 / b, touched(g) - base, a / b);
+}
+
+/* Cycles of the clock of the processor. */
+static inline uint64_t cycles(void) { return __builtin_ia32_rdtsc(); }
+
+/* The share of each message, open and loss in the mix: the least cycles of each event over many tries, without those of an empty reading of the clock. */
+static void shares(double ns)
+{
+    static uint64_t a[MOST], b[MOST];
+    uint64_t none = ~0ull;
+    memset(a, 0xFF, sizeof a);
+    memset(b, 0xFF, sizeof b);
+    for (int i = 0; i < 1000; i++) {
+        uint64_t t = cycles(), u = cycles() - t;
+        none = u < none ? u : none;
+    }
+    for (int k = 0; k < 60; k++)
+        for (size_t i = 0; i < count; i++) {
+            uint64_t t = cycles();
+            sink = by_ours(&events[i], ROOM);
+            uint64_t u = cycles();
+            sink = by_plain(&events[i], ROOM);
+            uint64_t v = cycles();
+            a[i] = u - t < a[i] ? u - t : a[i];
+            b[i] = v - u < b[i] ? v - u : b[i];
+        }
+    double of_ours[67] = {0}, of_plain[67] = {0};
+    size_t many[67] = {0};
+    for (size_t i = 0; i < count; i++) {
+        int k = events[i].kind != 2 ? 64 + events[i].kind % 3 : events[i].length ? events[i].octets[0] / 4 : 66;
+        many[k]++;
+        of_ours[k] += (double)(a[i] - none) * ns;
+        of_plain[k] += (double)(b[i] - none) * ns;
+    }
+    printf("by message number (64 open or start, 65 loss, 66 no octets): events, ns each, ratio, share of the proved time\n");
+    for (int k = 0; k < 67; k++)
+        if (many[k] >= 20)
+            printf("%4d %5zu %9.1f %9.1f %7.2f %9.0f\n", k, many[k], of_ours[k] / (double)many[k], of_plain[k] / (double)many[k], of_ours[k] / of_plain[k], of_ours[k]);
+}
+
+/* How long a cycle of that clock takes. */
+static double cycle_ns(void)
+{
+    struct timespec s, t;
+    clock_gettime(CLOCK_MONOTONIC, &s);
+    uint64_t a = cycles();
+    do
+        clock_gettime(CLOCK_MONOTONIC, &t);
+    while ((t.tv_sec - s.tv_sec) * 1e9 + (t.tv_nsec - s.tv_nsec) < 2e7);
+    return ((t.tv_sec - s.tv_sec) * 1e9 + (t.tv_nsec - s.tv_nsec)) / (double)(cycles() - a);
+}
+
+/* The numbers of the served messages. */
+static const uint64_t served = 1ull << 1 | 1ull << 8 | 1ull << 9 | 1ull << 10 | 1ull << 12 | 1ull << 14 | 1ull << 16 | 1ull << 17 | 1ull << 19 | 1ull << 21 | 1ull << 23 |
+    1ull << 29 | 1ull << 31 | 1ull << 33 | 1ull << 35 | 1ull << 37 | 1ull << 39 | 1ull << 41;
+
+/* The codec: what is read and written by both is the same. */
+static void compare_codec(void)
+{
+    size_t read = 0;
+    for (size_t i = 0; i < count; i++) {
+        const struct event *e = &events[i];
+        uint32_t k = e->length ? e->octets[0] / 4u : 0, v[6];
+        if (e->kind != 2 || e->length == 0 || e->length > 1024 || !(served >> k & 1))
+            continue;
+        uint16_t list[64];
+        struct message m;
+        uint32_t n = read_message(e->octets, e->length, v, list);
+        uint32_t refusal = (uint32_t)plain_read(e->octets, e->length, &m);
+        if (refusal != v[5])
+            fail("the refusal of reading", i);
+        if (refusal)
+            continue;
+        read++;
+        if (m.number != v[0] || (k != 9 && (m.count != n || memcmp(m.list, list, 2 * n))))
+            fail("what is read", i);
+    }
+    printf("compared: %zu messages read, no difference\n", read);
+}
+
+int main(int argc, char **argv)
+{
+    for (int i = 1; i < argc; i++)
+        load(argv[i]);
+    for (size_t i = 0; i < 64; i++)
+        detach[4 + 2 * i] = (uint8_t)i;
+    compare();
+    compare_codec();
+    printf("%-28s %9s %12s %7s %9s %12s %7s %7s\n", "", "proved ns", "a second", "stack", "plain ns", "a second", "stack", "ratio");
+    report("an event of the mix", our_mix, plain_mix, count, 60);
+    report("a grab and a release", our_pass, plain_pass, 0, 300);
+    report("read TGrq", our_grab, plain_grab, 0, 300);
+    report("read DUrq of 64 ids", our_detach, plain_detach, 0, 300);
+    report("write TGcf, checked", our_write, plain_write_checked, 0, 300);
+    shares(cycle_ns());
+    return 0;
+}
