@@ -1,0 +1,76 @@
+// Where the reading of a message stopped, and why.
+use reader::stops::Part;
+use reader::stops::Why;
+use streams::lines::add_number;
+use streams::lines::collect;
+use wording::words::add_named;
+use wording::words::add_word;
+
+// The part of a message: its number, a field or what follows the fields by name, or the end.
+fn put_part(out: &mut [u8], filled: usize, number: u32, part: Part) -> usize {
+    match part {
+        Part::Number => add_named(out, filled, wording::words::PART, 5, 3),
+        Part::Field(i) => add_word(out, filled, wording::fields::field_word(number, i)),
+        Part::Items => add_named(
+            out,
+            filled,
+            wording::words::PART,
+            3,
+            before(messages::tail_of(number)),
+        ),
+        Part::End => add_named(out, filled, wording::words::PART, 5, 4),
+    }
+}
+
+// One less, and of 0 none.
+fn before(kind: u8) -> u32 {
+    if kind == 0 {
+        return 3;
+    }
+    kind as u32 - 1
+}
+
+// The place of a reason among the words for why reading stops; behind the last where the words have none.
+fn place_of(why: Why) -> u32 {
+    match why {
+        Why::Read => 11,
+        Why::Size => 11,
+        Why::Uncovered => 11,
+        Why::Unknown => 0,
+        Why::Missing => 1,
+        Why::Skipped => 2,
+        Why::Range => 3,
+        Why::LongForm => 4,
+        Why::Fragmented => 5,
+        Why::Many => 6,
+        Why::Empty => 7,
+        Why::Wide => 8,
+        Why::Padded => 9,
+        Why::Left => 10,
+    }
+}
+
+// The message's number, of octets that are there.
+fn number_of(octets: &[u8]) -> u32 {
+    if octets.len() == 0 {
+        return 63;
+    }
+    (octets[0] / 4) as u32
+}
+
+// The line that says where reading stopped: the octet and the bit, counted from 0, the part of the message, and why.
+pub fn put_stop(out: &mut [u8], filled: usize, octets: &[u8]) -> usize {
+    let s = reader::stops::where_stopped(octets);
+    let bit = s.bit;
+    let part = s.part;
+    let why = s.why;
+    let a = collect(out, filled, b"  stopped at octet ");
+    let b = add_number(out, a, (bit / 8) as u64);
+    let c = collect(out, b, b" bit ");
+    let d = add_number(out, c, (bit % 8) as u64);
+    let e = collect(out, d, b" in ");
+    let f = put_part(out, e, number_of(octets), part);
+    let g = collect(out, f, b": ");
+    let h = add_named(out, g, wording::words::WHY, 11, place_of(why));
+    collect(out, h, b"\n")
+}
