@@ -10,13 +10,13 @@ pub mod tokens;
 use frames::Frame;
 use frames::Kind;
 use streams::lines::Report;
-use streams::lines::add_number;
-use streams::lines::collect;
+use streams::lines::say;
+use streams::lines::say_number;
 
 // A text and the number behind it.
 fn put_count(out: &mut [u8], filled: usize, text: &[u8], n: u64) -> usize {
-    let a = collect(out, filled, text);
-    add_number(out, a, n)
+    let a = say(out, filled, text);
+    say_number(out, a, n)
 }
 
 // The event of a good frame: a message in words.
@@ -26,7 +26,7 @@ fn put_event(out: &mut [u8], filled: usize, kind: Kind, connection: u8, message:
         Kind::Loss => put_count(out, filled, b": lost, connection ", connection as u64),
         Kind::Message => {
             let a = put_count(out, filled, b": message, connection ", connection as u64);
-            let b = collect(out, a, b": ");
+            let b = say(out, a, b": ");
             message::put_message(out, b, message)
         }
     }
@@ -34,9 +34,9 @@ fn put_event(out: &mut [u8], filled: usize, kind: Kind, connection: u8, message:
 
 // The line of octets in hexadecimal.
 fn put_octets_line(out: &mut [u8], filled: usize, octets: &[u8]) -> usize {
-    let a = collect(out, filled, b"  octets");
+    let a = say(out, filled, b"  octets");
     let b = message::put_octets(out, a, octets);
-    collect(out, b, b"\n")
+    say(out, b, b"\n")
 }
 
 // A message that was not read, or that a connection that is not open sent and that cannot be read: its octets, and for 5 and 8 where reading stopped.
@@ -78,8 +78,8 @@ fn put_unread(out: &mut [u8], filled: usize, reply: u64, kind: Kind, message: &[
 // The line of the reply: its number and meaning, octets sent, users, channels and tokens in use.
 fn put_reply(out: &mut [u8], filled: usize, report: Report) -> usize {
     let a = put_count(out, filled, b"  reply ", report.reply);
-    let b = collect(out, a, b" (");
-    let c = wording::words::add_named(
+    let b = say(out, a, b" (");
+    let c = wording::words::say_named(
         out,
         b,
         wording::words::REPLY,
@@ -90,7 +90,7 @@ fn put_reply(out: &mut [u8], filled: usize, report: Report) -> usize {
     let e = put_count(out, d, b", users ", report.users);
     let f = put_count(out, e, b", channels ", report.channels);
     let g = put_count(out, f, b", tokens ", report.tokens);
-    collect(out, g, b"\n")
+    say(out, g, b"\n")
 }
 
 // The octets of a bad frame: as many as its length says, or all that are left.
@@ -109,7 +109,7 @@ fn bad_size(s: &[u8]) -> usize
 
 // A bad frame: its octets.
 fn put_bad(out: &mut [u8], filled: usize, s: &[u8]) -> usize {
-    let a = collect(out, filled, b": bad frame\n");
+    let a = say(out, filled, b": bad frame\n");
     let size = bad_size(s);
     put_octets_line(out, a, &s[..size])
 }
@@ -124,7 +124,7 @@ fn put_good(
     reply: u64,
 ) -> usize {
     let a = put_event(out, filled, kind, connection, message);
-    let b = collect(out, a, b"\n");
+    let b = say(out, a, b"\n");
     put_unread(out, b, reply, kind, message)
 }
 
@@ -132,7 +132,7 @@ fn put_good(
 fn put_front(out: &mut [u8], filled: usize, s: &[u8], reply: u64) -> usize {
     let found = frames::next_frame(s);
     match found {
-        Frame::End => collect(out, filled, b": end\n"),
+        Frame::End => say(out, filled, b": end\n"),
         Frame::Bad => put_bad(out, filled, s),
         Frame::Good {
             kind,

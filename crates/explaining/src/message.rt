@@ -1,27 +1,27 @@
 // A message in words: its name, and its fields and list by name.
 ghost use Prim.Native.Nat.{_≤_};
-use streams::lines::add_number;
-use streams::lines::collect;
+use streams::lines::say;
+use streams::lines::say_number;
 use wording::fields::field_word;
-use wording::words::add_named;
-use wording::words::add_word;
+use wording::words::say_named;
+use wording::words::say_word;
 
 // The value of a field of a kind of the table of messages: a code by its name, an id or an integer in decimal.
 fn put_value(out: &mut [u8], filled: usize, kind: u8, value: u32) -> usize {
     match kind {
-        0 => add_named(out, filled, wording::words::RESULT, 16, value),
-        1 => add_named(out, filled, wording::words::DIAGNOSTIC, 14, value),
-        2 => add_named(out, filled, wording::words::REASON, 5, value),
-        3 => add_named(out, filled, wording::words::STATUS, 8, value),
-        _ => add_number(out, filled, value as u64),
+        0 => say_named(out, filled, wording::words::RESULT, 16, value),
+        1 => say_named(out, filled, wording::words::DIAGNOSTIC, 14, value),
+        2 => say_named(out, filled, wording::words::REASON, 5, value),
+        3 => say_named(out, filled, wording::words::STATUS, 8, value),
+        _ => say_number(out, filled, value as u64),
     }
 }
 
 // Field i of a message, its name and its value, each behind a space.
 fn put_field(out: &mut [u8], filled: usize, number: u32, i: usize, value: u32) -> usize {
-    let a = collect(out, filled, b" ");
-    let b = add_word(out, a, field_word(number, i));
-    let c = collect(out, b, b" ");
+    let a = say(out, filled, b" ");
+    let b = say_word(out, a, field_word(number, i));
+    let c = say(out, b, b" ");
     put_value(out, c, messages::kind_of(number, i), value)
 }
 
@@ -38,8 +38,8 @@ fn put_fields(out: &mut [u8], filled: usize, number: u32, values: &[u32]) -> usi
 
 // An id behind a space.
 pub fn put_id(out: &mut [u8], filled: usize, id: u16) -> usize {
-    let a = collect(out, filled, b" ");
-    add_number(out, a, id as u64)
+    let a = say(out, filled, b" ");
+    say_number(out, a, id as u64)
 }
 
 // Ids, each behind a space.
@@ -56,7 +56,7 @@ fn put_ids(out: &mut [u8], filled: usize, ids: &[u16]) -> usize {
 // A list of ids, or that there is none.
 fn put_list(out: &mut [u8], filled: usize, ids: &[u16]) -> usize {
     if ids.len() == 0 {
-        return collect(out, filled, b" none");
+        return say(out, filled, b" none");
     }
     put_ids(out, filled, ids)
 }
@@ -64,9 +64,9 @@ fn put_list(out: &mut [u8], filled: usize, ids: &[u16]) -> usize {
 // Octets, or that there are none.
 pub fn put_octets(out: &mut [u8], filled: usize, octets: &[u8]) -> usize {
     if octets.len() == 0 {
-        return collect(out, filled, b" none");
+        return say(out, filled, b" none");
     }
-    streams::hexadecimal::add_octets(out, filled, octets, true)
+    streams::hexadecimal::say_octets(out, filled, octets, true)
 }
 
 // What follows the fields, by its kind in the table of messages: its name, and the ids or octets.
@@ -74,8 +74,8 @@ fn put_tail(out: &mut [u8], filled: usize, kind: u8, ids: &[u16], octets: &[u8])
     if kind == 0 {
         return filled;
     }
-    let a = collect(out, filled, b" ");
-    let b = add_named(out, a, wording::words::PART, 4, kind as u32 - 1);
+    let a = say(out, filled, b" ");
+    let b = say_named(out, a, wording::words::PART, 4, kind as u32 - 1);
     if kind == 3 {
         return put_octets(out, b, octets);
     }
@@ -95,14 +95,14 @@ fn at_most(n: usize, most: usize) -> usize
 // A message that is not read: its name, or its number where it has none, or nothing where there are no octets.
 fn put_unread(out: &mut [u8], filled: usize, octets: &[u8]) -> usize {
     if octets.len() == 0 {
-        return collect(out, filled, b"no octets");
+        return say(out, filled, b"no octets");
     }
     let number = octets[0] / 4;
     if number < 43 {
-        return add_named(out, filled, wording::words::MESSAGE, 43, number as u32);
+        return say_named(out, filled, wording::words::MESSAGE, 43, number as u32);
     }
-    let a = collect(out, filled, b"number ");
-    add_number(out, a, number as u64)
+    let a = say(out, filled, b"number ");
+    say_number(out, a, number as u64)
 }
 
 // A message in words, of any octets.
@@ -117,7 +117,7 @@ pub fn put_message(out: &mut [u8], filled: usize, octets: &[u8]) -> usize {
     let have = at_most(d.have, 4);
     let count = at_most(d.count, messages::LIST_LIMIT);
     let start = at_most(d.start, octets.len());
-    let a = add_named(out, filled, wording::words::MESSAGE, 43, number);
+    let a = say_named(out, filled, wording::words::MESSAGE, 43, number);
     let b = put_fields(out, a, number, &values[..have]);
     put_tail(
         out,

@@ -1,8 +1,8 @@
 // The records sent for a frame, a line each.
 ghost use Prim.Native.Nat.{_≤_};
 ghost use lib.ListN.{length};
-use streams::lines::add_number;
-use streams::lines::collect;
+use streams::lines::say;
+use streams::lines::say_number;
 
 // How many octets the record at the front has; 0 where there is none.
 fn size_at(records: &[u8]) -> usize
@@ -26,11 +26,11 @@ fn put_record(out: &mut [u8], filled: usize, record: &[u8]) -> usize {
     if record.len() < 4 {
         return filled;
     }
-    let a = collect(out, filled, b"  to connection ");
-    let b = add_number(out, a, record[3] as u64);
-    let c = collect(out, b, b": ");
+    let a = say(out, filled, b"  to connection ");
+    let b = say_number(out, a, record[3] as u64);
+    let c = say(out, b, b": ");
     let d = crate::message::put_message(out, c, &record[4..]);
-    collect(out, d, b"\n")
+    say(out, d, b"\n")
 }
 
 // Records one behind the other.

@@ -1,24 +1,24 @@
 // Where the reading of a message stopped, and why.
 use reader::stops::Part;
 use reader::stops::Why;
-use streams::lines::add_number;
-use streams::lines::collect;
-use wording::words::add_named;
-use wording::words::add_word;
+use streams::lines::say;
+use streams::lines::say_number;
+use wording::words::say_named;
+use wording::words::say_word;
 
 // The part of a message: its number, a field or what follows the fields by name, or the end.
 fn put_part(out: &mut [u8], filled: usize, number: u32, part: Part) -> usize {
     match part {
-        Part::Number => add_named(out, filled, wording::words::PART, 5, 3),
-        Part::Field(i) => add_word(out, filled, wording::fields::field_word(number, i)),
-        Part::Items => add_named(
+        Part::Number => say_named(out, filled, wording::words::PART, 5, 3),
+        Part::Field(i) => say_word(out, filled, wording::fields::field_word(number, i)),
+        Part::Items => say_named(
             out,
             filled,
             wording::words::PART,
             3,
             before(messages::tail_of(number)),
         ),
-        Part::End => add_named(out, filled, wording::words::PART, 5, 4),
+        Part::End => say_named(out, filled, wording::words::PART, 5, 4),
     }
 }
 
@@ -64,13 +64,13 @@ pub fn put_stop(out: &mut [u8], filled: usize, octets: &[u8]) -> usize {
     let bit = s.bit;
     let part = s.part;
     let why = s.why;
-    let a = collect(out, filled, b"  stopped at octet ");
-    let b = add_number(out, a, (bit / 8) as u64);
-    let c = collect(out, b, b" bit ");
-    let d = add_number(out, c, (bit % 8) as u64);
-    let e = collect(out, d, b" in ");
+    let a = say(out, filled, b"  stopped at octet ");
+    let b = say_number(out, a, (bit / 8) as u64);
+    let c = say(out, b, b" bit ");
+    let d = say_number(out, c, (bit % 8) as u64);
+    let e = say(out, d, b" in ");
     let f = put_part(out, e, number_of(octets), part);
-    let g = collect(out, f, b": ");
-    let h = add_named(out, g, wording::words::WHY, 11, place_of(why));
-    collect(out, h, b"\n")
+    let g = say(out, f, b": ");
+    let h = say_named(out, g, wording::words::WHY, 11, place_of(why));
+    say(out, h, b"\n")
 }

@@ -1,7 +1,7 @@
 // Who holds or is offered which token: the changes that a frame made, and the table.
 use domain::token::Holding;
-use streams::lines::add_number;
-use streams::lines::collect;
+use streams::lines::say;
+use streams::lines::say_number;
 
 // The ids of a column, ascending, each behind a space.
 fn put_rising(out: &mut [u8], filled: usize, ids: &[u16]) -> usize {
@@ -51,17 +51,17 @@ fn members(names: &[u16; 64], us: u64) -> [u16; 64] {
 
 // A user's id behind a text.
 fn put_user(out: &mut [u8], filled: usize, text: &[u8], names: &[u16; 64], i: u8) -> usize {
-    let a = collect(out, filled, text);
+    let a = say(out, filled, text);
     crate::message::put_id(out, a, name_at(names, i))
 }
 
 // The state of a token.
 fn put_holding(out: &mut [u8], filled: usize, names: &[u16; 64], h: Holding) -> usize {
     match h {
-        Holding::Free => collect(out, filled, b"free"),
+        Holding::Free => say(out, filled, b"free"),
         Holding::Grabbed(g) => put_user(out, filled, b"grabbed by", names, g),
         Holding::Inhibited(us) => {
-            let a = collect(out, filled, b"inhibited by");
+            let a = say(out, filled, b"inhibited by");
             put_rising(out, a, &members(names, us))
         }
         Holding::Giving(g, r) => {
@@ -74,11 +74,11 @@ fn put_holding(out: &mut [u8], filled: usize, names: &[u16; 64], h: Holding) -> 
 
 // A token's line.
 fn put_token(out: &mut [u8], filled: usize, names: &[u16; 64], k: u16, h: Holding) -> usize {
-    let a = collect(out, filled, b"  token ");
-    let b = add_number(out, a, k as u64);
-    let c = collect(out, b, b": ");
+    let a = say(out, filled, b"  token ");
+    let b = say_number(out, a, k as u64);
+    let c = say(out, b, b": ");
     let d = put_holding(out, c, names, h);
-    collect(out, d, b"\n")
+    say(out, d, b"\n")
 }
 
 // A line for each token of a list, ascending.
@@ -182,8 +182,8 @@ pub fn put_table(
     modes: &[u8; 64],
     values: &[u64; 64],
 ) -> usize {
-    let a = collect(out, filled, b"tokens in use: ");
-    let b = add_number(out, a, places::columns::used(keys) as u64);
-    let c = collect(out, b, b"\n");
+    let a = say(out, filled, b"tokens in use: ");
+    let b = say_number(out, a, places::columns::used(keys) as u64);
+    let c = say(out, b, b"\n");
     put_tokens(out, c, names, keys, modes, values, keys)
 }

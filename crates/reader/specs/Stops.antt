@@ -2,6 +2,6 @@
 use Prim.Native.Nat.{ℕ}
 use Rattle.messages.specs.Codec.{Msg, Outcome, ok, refuse}
 
-abbrev pub refusalOf : Outcome Msg → ℕ
+unfoldable pub refusalOf : Outcome Msg → ℕ
 refusalOf (ok m) = 0
 refusalOf (refuse n) = n

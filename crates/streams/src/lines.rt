@@ -5,7 +5,7 @@ ghost use Prim.Native.Nat.{_+_, _≤_};
 ghost use lib.ListN.{length};
 ghost use lib.Dec.{leb};
 ghost use lib.Seq.{sets};
-ghost use Rattle.streams.specs.Lines.{decimal, field, lineOf, collected, Adds};
+ghost use Rattle.streams.specs.Lines.{decimal, field, lineOf, collected, Says, Adds};
 use libc::STDOUT_FILENO;
 
 // What a frame prints.
@@ -78,13 +78,20 @@ pub fn collect(out: &mut [u8], filled: usize, text: &[u8]) -> usize
     0
 }
 
-// Puts a number in decimal behind the octets that are filled, as collect does.
-pub fn add_number(out: &mut [u8], filled: usize, n: u64) -> usize
-    ensures { λ r. ⌜ (now (out .exit), r) ≡ collected (now (out .entry)) filled (decimal n) ⌝ }
+// Collects a text; what is put by many calls is promised as the list of the texts.
+pub fn say(out: &mut [u8], filled: usize, text: &[u8]) -> usize
+    ensures { λ r. ⌜ Says (now (out .entry)) filled (now (text .entry) ∷ []) (now (out .exit)) r ⌝ }
+{
+    collect(out, filled, text)
+}
+
+// Says a number in decimal.
+pub fn say_number(out: &mut [u8], filled: usize, n: u64) -> usize
+    ensures { λ r. ⌜ Says (now (out .entry)) filled (decimal n ∷ []) (now (out .exit)) r ⌝ }
 {
     let mut digits = [0u8; 20];
     let k = io::decimal(n, &mut digits);
-    collect(out, filled, &digits[..k])
+    say(out, filled, &digits[..k])
 }
 
 // Puts the line of a report behind the octets that are filled, as collect does.

@@ -186,7 +186,7 @@ fn print_sent(output: &mut [u8], filled: usize, report: Report, room: &[u8; ROOM
     if all.len() < sent {
         return at;
     }
-    let end = streams::hexadecimal::add_octets(output, at, &all[..sent], false);
+    let end = streams::hexadecimal::say_octets(output, at, &all[..sent], false);
     streams::lines::collect(output, end, b"\n")
 }
 

@@ -183,19 +183,19 @@ fn size_of(row: &[u8]) -> usize
 }
 
 // Puts a word behind the octets that are filled.
-pub fn add_word(out: &mut [u8], filled: usize, n: usize) -> usize {
+pub fn say_word(out: &mut [u8], filled: usize, n: usize) -> usize {
     let text = row(n);
     let all = &text[..];
     let k = size_of(all);
-    streams::lines::collect(out, filled, &all[..k])
+    streams::lines::say(out, filled, &all[..k])
 }
 
 // Puts the word at a place of a group of so many; behind the last, a question mark.
-pub fn add_named(out: &mut [u8], filled: usize, group: usize, count: u32, value: u32) -> usize {
+pub fn say_named(out: &mut [u8], filled: usize, group: usize, count: u32, value: u32) -> usize {
     if value < count {
         if group < NONE {
-            return add_word(out, filled, group + value as usize);
+            return say_word(out, filled, group + value as usize);
         }
     }
-    add_word(out, filled, NONE)
+    say_word(out, filled, NONE)
 }

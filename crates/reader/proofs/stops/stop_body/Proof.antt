@@ -1,3 +1,8 @@
+-- `reader::stops::stop_body` meets its contract: each stop has the refusal that reading has there. Assumes nothing.
+use mathlib.Core.Path.{refl}
+use Rattle.reader.proofs.StopLaws.{stops-with, stops-never}
+use Rattle.reader.proofs.BodyLaws.{body-no, body-pad, body-tail-no, body-over, body-is}
+use borrow.Author.Tests.{not-true, not-false}
 use borrow.Author.Needs.{needs}
 use Rattle.reader.proofs.stops.stop_body.Statement.{statement}
 use Rattle.reader.proofs.stops.stop_body.Tie as tie
@@ -32,7 +37,7 @@ stop-field-requires c κs = search needs
 
 -- src/stops.rt:263:9
 returns : tie.Need-returns
-returns c = ?
+returns c = stops-with _ _ _ (c .stop-field .ensures) (body-no _ _ _ _ (c .before .before .before .before .before .take-fields .result) (c .before .before .before .before .before .take-fields .ensures) (not-true _ (c .before .before .before .if1 .taken)))
 
 -- src/stops.rt:266:9
 tail-of-requires : tie.Need-tail-of-requires
@@ -48,7 +53,7 @@ behind-fields-requires c κs = search needs
 
 -- src/stops.rt:268:9
 returns-2 : tie.Need-returns-2
-returns-2 c = ?
+returns-2 c = stops-with _ 5 _ refl (body-pad _ _ _ _ (c .before .before .before .before .before .before .take-fields .result) (c .before .before .before .before .before .before .take-fields .ensures) (not-false _ (c .before .before .before .before .if1 .left)) (c .before .before .bits-at .result) (c .before .before .bits-at .ensures .0) (c .before .if2 .taken))
 
 -- src/stops.rt:275:14
 add-i : tie.Need-add-i
@@ -64,7 +69,7 @@ stop-items-requires c κs = search needs
 
 -- src/stops.rt:278:9
 returns-3 : tie.Need-returns-3
-returns-3 c = ?
+returns-3 c = stops-with _ _ _ (c .stop-items .ensures) (body-tail-no _ _ _ _ (c .before .before .before .before .before .before .before .before .before .take-fields .result) (c .before .before .before .before .before .before .before .before .before .take-fields .ensures) (not-false _ (c .before .before .before .before .before .before .before .if1 .left)) (c .before .before .before .before .before .bits-at .result) (c .before .before .before .before .before .bits-at .ensures .0) (c .before .before .before .before .if2 .left) _ (c .before .before .before .before .before .before .tail-of .ensures) (c .before .before .before .read-tail .result) (c .before .before .before .read-tail .ensures) (not-true _ (c .before .if3 .taken)))
 
 -- src/stops.rt:281:9
 at-octet-requires : tie.Need-at-octet-requires
@@ -72,7 +77,7 @@ at-octet-requires c κs = search needs
 
 -- src/stops.rt:281:9
 returns-4 : tie.Need-returns-4
-returns-4 c = ?
+returns-4 c = stops-with _ _ _ (c .at-octet .ensures) (body-over _ _ _ _ (c .before .before .before .before .before .before .before .before .before .before .before .take-fields .result) (c .before .before .before .before .before .before .before .before .before .before .before .take-fields .ensures) (not-false _ (c .before .before .before .before .before .before .before .before .before .if1 .left)) (c .before .before .before .before .before .before .before .bits-at .result) (c .before .before .before .before .before .before .before .bits-at .ensures .0) (c .before .before .before .before .before .before .if2 .left) _ (c .before .before .before .before .before .before .before .before .tail-of .ensures) (c .before .before .before .before .before .read-tail .result) (c .before .before .before .before .before .read-tail .ensures) (not-false _ (c .before .before .before .if3 .left)) (c .before .if4 .taken))
 
 -- src/stops.rt:283:5
 at-octet-requires-2 : tie.Need-at-octet-requires-2
@@ -80,7 +85,7 @@ at-octet-requires-2 c κs = search needs
 
 -- src/stops.rt:256:1
 returns-5 : tie.Need-returns-5
-returns-5 c = ?
+returns-5 c = stops-never _ _ _ _ (c .at-octet2 .ensures) refl (body-is _ _ _ _ (c .before .before .before .before .before .before .before .before .before .before .before .take-fields .result) (c .before .before .before .before .before .before .before .before .before .before .before .take-fields .ensures) (not-false _ (c .before .before .before .before .before .before .before .before .before .if1 .left)) (c .before .before .before .before .before .before .before .bits-at .result) (c .before .before .before .before .before .before .before .bits-at .ensures .0) (c .before .before .before .before .before .before .if2 .left) _ (c .before .before .before .before .before .before .before .before .tail-of .ensures) (c .before .before .before .before .before .read-tail .result) (c .before .before .before .before .before .read-tail .ensures) (not-false _ (c .before .before .before .if3 .left)) (c .before .if4 .left))
 
 pub stop-body-spec : {M : Type 1} → statement M
 stop-body-spec =

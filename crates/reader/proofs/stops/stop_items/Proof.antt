@@ -1,3 +1,5 @@
+-- `reader::stops::stop_items` meets its contract: what follows a length lies in the octets. Assumes nothing.
+use Rattle.octets.proofs.Reading.{ends-value}
 use borrow.Author.Needs.{needs}
 use Rattle.reader.proofs.stops.stop_items.Statement.{statement}
 use Rattle.reader.proofs.stops.stop_items.Tie as tie
@@ -30,7 +32,7 @@ enum-known-g-2 c = search needs
 
 -- src/stops.rt:243:30
 stop-listed-requires : tie.Need-stop-listed-requires
-stop-listed-requires c κs = ?
+stop-listed-requires c κs = (search needs, ends-value _ _ _ _ (c .before .g2 .given .1) (c .before .before .before .read-length .ensures .inside), search needs)
 
 -- src/stops.rt:236:1
 returns : tie.Need-returns

@@ -1,3 +1,6 @@
+-- `reader::stops::stop_row` meets its contract: a refused number, or the stop behind it. Assumes nothing.
+use Rattle.reader.proofs.StopLaws.{stops-with, stops-as}
+use Rattle.reader.proofs.RowLaws.{on-no, on-body}
 use borrow.Author.Needs.{needs}
 use Rattle.reader.proofs.stops.stop_row.Statement.{statement}
 use Rattle.reader.proofs.stops.stop_row.Tie as tie
@@ -43,15 +46,15 @@ add-stop-body c = search needs
 
 -- src/stops.rt:303:35
 stop-body-requires : tie.Need-stop-body-requires
-stop-body-requires c κs = ?
+stop-body-requires c κs = let b = on-body _ _ _ _ (c .before .before .before .presence .ensures) _ _ (c .before .g2 .given .1) in (b .1, search needs, rw (c .before .before .before .before .count-of .ensures .0) (b .2))
 
 -- src/stops.rt:295:1
 returns : tie.Need-returns
-returns c = ?
+returns c = stops-with _ _ _ (c .at-octet .ensures) (on-no _ _ _ _ (c .before .before .before .before .before .presence .ensures) _ (c .before .before .before .g .given .1))
 
 -- src/stops.rt:295:1
 returns-2 : tie.Need-returns-2
-returns-2 c = ?
+returns-2 c = stops-as _ _ _ (c .stop-body .ensures) (rw (c .before .before .before .before .before .count-of .ensures .0) (on-body _ _ _ _ (c .before .before .before .before .presence .ensures) _ _ (c .before .before .g2 .given .1) .0))
 
 pub stop-row-spec : {M : Type 1} → statement M
 stop-row-spec =
