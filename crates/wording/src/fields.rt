@@ -1,4 +1,6 @@
 // The names of a message's fields.
+ghost use mathlib.Core.Path.{_≡_};
+ghost use Rattle.wording.specs.FieldNames.{namesAt, wordOf, fieldWord};
 use crate::words::FIELD;
 use crate::words::NONE;
 
@@ -51,7 +53,9 @@ const FIELDS: [u16; 43] = [
 ];
 
 // The digits of a number's line; of 43 up, those of no field.
-fn names_of(number: u32) -> u16 {
+fn names_of(number: u32) -> u16
+    ensures { λ r. ⌜ r ≡ namesAt number ⌝ }
+{
     if 42 < number {
         return 0xFFFF;
     }
@@ -59,7 +63,9 @@ fn names_of(number: u32) -> u16 {
 }
 
 // The name of a field by its digit.
-fn word_of(digit: u16) -> usize {
+fn word_of(digit: u16) -> usize
+    ensures { λ r. ⌜ r ≡ wordOf digit ⌝ }
+{
     if 10 < digit {
         return NONE;
     }
@@ -67,13 +73,17 @@ fn word_of(digit: u16) -> usize {
 }
 
 // The word for field i of a message.
-pub fn field_word(number: u32, i: usize) -> usize {
+pub fn field_word(number: u32, i: usize) -> usize
+    ensures { λ r. ⌜ r ≡ fieldWord number i ⌝ }
+{
+    if 3 < i {
+        return NONE;
+    }
     let names = names_of(number);
     match i {
         0 => word_of(names % 16),
         1 => word_of((names >> 4) % 16),
         2 => word_of((names >> 8) % 16),
-        3 => word_of((names >> 12) % 16),
-        _ => NONE,
+        _ => word_of((names >> 12) % 16),
     }
 }

@@ -1,6 +1,8 @@
 // The words for the numbers of T.125 and of document 01: one table, a row of 24 octets a word, the rest of a row dots.
-ghost use Prim.Native.Nat.{_≤_};
-ghost use lib.ListN.{length};
+ghost use mathlib.Core.Path.{_≡_};
+ghost use mathlib.Core.List.{[], _∷_};
+ghost use Rattle.streams.specs.Lines.{Says};
+ghost use Rattle.wording.specs.Words.{word, padded, placed, Fronts};
 
 // Results, 16 from here on.
 pub const RESULT: usize = 0;
@@ -161,7 +163,9 @@ const WORDS: [[u8; 24]; 125] = [
 ];
 
 // The row of a word; of a number above the last, a question mark.
-fn row(n: usize) -> [u8; 24] {
+fn row(n: usize) -> [u8; 24]
+    ensures { λ r. ⌜ r ≡ padded (word n) ⌝ }
+{
     if n < NONE {
         return WORDS[n];
     }
@@ -170,7 +174,7 @@ fn row(n: usize) -> [u8; 24] {
 
 // How many octets stand before the first dot.
 fn size_of(row: &[u8]) -> usize
-    ensures { λ r. ⌜ r ≤ length (now (row .entry)) ⌝ }
+    ensures { λ r. ⌜ Fronts (now (row .entry)) r ⌝ }
 {
     let mut i = 0;
     while i < row.len() {
@@ -182,20 +186,25 @@ fn size_of(row: &[u8]) -> usize
     i
 }
 
-// Puts a word behind the octets that are filled.
-pub fn say_word(out: &mut [u8], filled: usize, n: usize) -> usize {
+// Says a word.
+pub fn say_word(out: &mut [u8], filled: usize, n: usize) -> usize
+    ensures { λ r. ⌜ Says (now (out .entry)) filled (word n ∷ []) (now (out .exit)) r ⌝ }
+{
     let text = row(n);
     let all = &text[..];
     let k = size_of(all);
     streams::lines::say(out, filled, &all[..k])
 }
 
-// Puts the word at a place of a group of so many; behind the last, a question mark.
-pub fn say_named(out: &mut [u8], filled: usize, group: usize, count: u32, value: u32) -> usize {
-    if value < count {
-        if group < NONE {
-            return say_word(out, filled, group + value as usize);
-        }
+// Says the word for a value among so many from a group's first on; for any other, a question mark.
+pub fn say_named(out: &mut [u8], filled: usize, group: usize, count: u32, value: u32) -> usize
+    ensures { λ r. ⌜ Says (now (out .entry)) filled (word (placed group count value) ∷ []) (now (out .exit)) r ⌝ }
+{
+    if count <= value {
+        return say_word(out, filled, NONE);
     }
-    say_word(out, filled, NONE)
+    if NONE <= group {
+        return say_word(out, filled, NONE);
+    }
+    say_word(out, filled, group + value as usize)
 }
