@@ -2,9 +2,7 @@
 ghost use Prim.Native.Nat.{_≤_};
 ghost use lib.ListN.{length};
 
-pub mod message;
 mod sent;
-mod stop;
 pub mod tokens;
 
 use frames::Frame;
@@ -27,7 +25,7 @@ fn put_event(out: &mut [u8], filled: usize, kind: Kind, connection: u8, message:
         Kind::Message => {
             let a = put_count(out, filled, b": message, connection ", connection as u64);
             let b = say(out, a, b": ");
-            message::put_message(out, b, message)
+            phrasing::message::put_message(out, b, message)
         }
     }
 }
@@ -35,7 +33,7 @@ fn put_event(out: &mut [u8], filled: usize, kind: Kind, connection: u8, message:
 // The line of octets in hexadecimal.
 fn put_octets_line(out: &mut [u8], filled: usize, octets: &[u8]) -> usize {
     let a = say(out, filled, b"  octets");
-    let b = message::put_octets(out, a, octets);
+    let b = phrasing::message::put_octets(out, a, octets);
     say(out, b, b"\n")
 }
 
@@ -49,10 +47,10 @@ fn put_refused(out: &mut [u8], filled: usize, reply: u64, message: &[u8]) -> usi
     }
     let a = put_octets_line(out, filled, message);
     if reply == 5 {
-        return stop::put_stop(out, a, message);
+        return phrasing::stop::put_stop(out, a, message);
     }
     if reply == 8 {
-        return stop::put_stop(out, a, message);
+        return phrasing::stop::put_stop(out, a, message);
     }
     a
 }
@@ -75,22 +73,27 @@ fn put_unread(out: &mut [u8], filled: usize, reply: u64, kind: Kind, message: &[
     }
 }
 
+// Users, channels and tokens in use.
+fn put_counts(out: &mut [u8], filled: usize, report: Report) -> usize {
+    let a = put_count(out, filled, b", users ", report.users);
+    let b = put_count(out, a, b", channels ", report.channels);
+    put_count(out, b, b", tokens ", report.tokens)
+}
+
 // The line of the reply: its number and meaning, octets sent, users, channels and tokens in use.
 fn put_reply(out: &mut [u8], filled: usize, report: Report) -> usize {
     let a = put_count(out, filled, b"  reply ", report.reply);
     let b = say(out, a, b" (");
-    let c = wording::words::say_named(
+    let c = say_named(
         out,
         b,
         wording::words::REPLY,
         12,
-        (report.reply % 4294967296) as u32,
+        (report.reply % 65536) as u32,
     );
     let d = put_count(out, c, b"), sent ", report.sent);
-    let e = put_count(out, d, b", users ", report.users);
-    let f = put_count(out, e, b", channels ", report.channels);
-    let g = put_count(out, f, b", tokens ", report.tokens);
-    say(out, g, b"\n")
+    let e = put_counts(out, d, report);
+    say(out, e, b"\n")
 }
 
 // The octets of a bad frame: as many as its length says, or all that are left.
@@ -100,11 +103,11 @@ fn bad_size(s: &[u8]) -> usize
     if s.len() < 2 {
         return s.len();
     }
-    let size = 2 + frames::following(s[0], s[1]);
-    if size < s.len() {
-        return size;
+    let n = frames::following(s[0], s[1]);
+    if s.len() - 2 <= n {
+        return s.len();
     }
-    s.len()
+    n + 2
 }
 
 // A bad frame: its octets.

@@ -11,14 +11,14 @@ fn size_at(records: &[u8]) -> usize
     if records.len() < 4 {
         return 0;
     }
-    let size = 2 + frames::following(records[0], records[1]);
-    if size < 4 {
+    let n = frames::following(records[0], records[1]);
+    if n < 2 {
         return 0;
     }
-    if records.len() < size {
+    if records.len() - 2 < n {
         return 0;
     }
-    size
+    n + 2
 }
 
 // A record: to which connection, and the message in words.
@@ -29,7 +29,7 @@ fn put_record(out: &mut [u8], filled: usize, record: &[u8]) -> usize {
     let a = say(out, filled, b"  to connection ");
     let b = say_number(out, a, record[3] as u64);
     let c = say(out, b, b": ");
-    let d = crate::message::put_message(out, c, &record[4..]);
+    let d = phrasing::message::put_message(out, c, &record[4..]);
     say(out, d, b"\n")
 }
 

@@ -13,7 +13,7 @@ fn put_rising(out: &mut [u8], filled: usize, ids: &[u16]) -> usize {
         if k == 0 {
             return at;
         }
-        at = crate::message::put_id(out, at, k);
+        at = phrasing::message::put_id(out, at, k);
         low = k;
         left -= 1;
     }
@@ -52,7 +52,7 @@ fn members(names: &[u16; 64], us: u64) -> [u16; 64] {
 // A user's id behind a text.
 fn put_user(out: &mut [u8], filled: usize, text: &[u8], names: &[u16; 64], i: u8) -> usize {
     let a = say(out, filled, text);
-    crate::message::put_id(out, a, name_at(names, i))
+    phrasing::message::put_id(out, a, name_at(names, i))
 }
 
 // The state of a token.

@@ -55,22 +55,26 @@ fn number_of(octets: &[u8]) -> u32 {
     if octets.len() == 0 {
         return 63;
     }
-    (octets[0] / 4) as u32
+    octets::wide(octets[0]) / 4
 }
 
-// The line that says where reading stopped: the octet and the bit, counted from 0, the part of the message, and why.
-pub fn put_stop(out: &mut [u8], filled: usize, octets: &[u8]) -> usize {
-    let s = reader::stops::where_stopped(octets);
-    let bit = s.bit;
-    let part = s.part;
-    let why = s.why;
+// An octet and a bit, counted from 0.
+fn put_place(out: &mut [u8], filled: usize, bit: usize) -> usize {
     let a = say(out, filled, b"  stopped at octet ");
     let b = say_number(out, a, (bit / 8) as u64);
     let c = say(out, b, b" bit ");
-    let d = say_number(out, c, (bit % 8) as u64);
-    let e = say(out, d, b" in ");
-    let f = put_part(out, e, number_of(octets), part);
-    let g = say(out, f, b": ");
-    let h = say_named(out, g, wording::words::WHY, 11, place_of(why));
-    say(out, h, b"\n")
+    say_number(out, c, (bit % 8) as u64)
+}
+
+// The line that says where reading stopped: the octet and the bit, the part of the message, and why.
+pub fn put_stop(out: &mut [u8], filled: usize, octets: &[u8]) -> usize {
+    let s = reader::stops::where_stopped(octets);
+    let part = s.part;
+    let why = s.why;
+    let a = put_place(out, filled, s.bit);
+    let b = say(out, a, b" in ");
+    let c = put_part(out, b, number_of(octets), part);
+    let d = say(out, c, b": ");
+    let e = say_named(out, d, wording::words::WHY, 11, place_of(why));
+    say(out, e, b"\n")
 }
