@@ -10,6 +10,7 @@ use frames::Kind;
 use streams::lines::Report;
 use streams::lines::say;
 use streams::lines::say_number;
+use wording::words::say_named;
 
 // A text and the number behind it.
 fn put_count(out: &mut [u8], filled: usize, text: &[u8], n: u64) -> usize {

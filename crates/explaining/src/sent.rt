@@ -27,7 +27,7 @@ fn put_record(out: &mut [u8], filled: usize, record: &[u8]) -> usize {
         return filled;
     }
     let a = say(out, filled, b"  to connection ");
-    let b = say_number(out, a, record[3] as u64);
+    let b = say_number(out, a, octets::wide(record[3]) as u64);
     let c = say(out, b, b": ");
     let d = phrasing::message::put_message(out, c, &record[4..]);
     say(out, d, b"\n")
