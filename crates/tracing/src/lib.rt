@@ -245,6 +245,25 @@ fn show_end(
     }
 }
 
+// What is left of a span behind its first octets; nothing where it has fewer.
+fn behind(span: Span, size: usize) -> Span {
+    if span.to < span.from {
+        return span;
+    }
+    if span.to - span.from < size {
+        return Span {
+            from: span.to,
+            to: span.to,
+            ended: span.ended,
+        };
+    }
+    Span {
+        from: span.from + size,
+        to: span.to,
+        ended: span.ended,
+    }
+}
+
 // Takes one frame and shows it. The run goes on behind a good frame.
 fn step(
     input: &mut [u8],
@@ -288,12 +307,7 @@ fn step(
         values,
         room,
     );
-    let next = from + taken.size;
-    let rest = Span {
-        from: next,
-        to,
-        ended: span.ended,
-    };
+    let rest = behind(span, taken.size);
     if !taken.line {
         return Turn {
             span: rest,
