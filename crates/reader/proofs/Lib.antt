@@ -4,3 +4,4 @@ pub mod Loop
 pub mod RowLaws
 pub mod ListLaws
 pub mod BodyLaws
+mod StopLaws

@@ -1,3 +1,4 @@
 pub mod Held
 pub mod Reading
 pub mod Stepping
+pub mod Stops

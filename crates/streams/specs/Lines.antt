@@ -37,3 +37,17 @@ collected out filled text =
     cond (leb (filled + length text) (length out))
     (sets out filled text, filled + length text)
     (cond (leb (length text) (length out)) (sets out 0 text, length text) (out, 0))
+
+-- texts put one behind the other, each as `collected` puts it
+unfoldable pub said : List ℕ × ℕ → List (List ℕ) → List ℕ × ℕ
+said s [] = s
+said s (t ∷ ts) = said (collected (s .0) (s .1) t) ts
+
+-- a buffer o with f octets that wait is x with r of them once these texts are put
+pub record Says (o : List ℕ) (f : ℕ) (ts : List (List ℕ)) (x : List ℕ) (r : ℕ) : Type 0 where
+  pub same : (x, r) ≡ said (o, f) ts
+
+-- the texts of each element of a list and its place, counted from i
+unfoldable pub each : (ℕ → ℕ → List (List ℕ)) → ℕ → List ℕ → List (List ℕ)
+each f i [] = []
+each f i (x ∷ xs) = f i x ++ each f (suc i) xs

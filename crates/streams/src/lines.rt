@@ -5,7 +5,7 @@ ghost use Prim.Native.Nat.{_+_, _≤_};
 ghost use lib.ListN.{length};
 ghost use lib.Dec.{leb};
 ghost use lib.Seq.{sets};
-ghost use Rattle.streams.specs.Lines.{field, lineOf, collected, Adds};
+ghost use Rattle.streams.specs.Lines.{decimal, field, lineOf, collected, Says, Adds};
 use libc::STDOUT_FILENO;
 
 // What a frame prints.
@@ -76,6 +76,22 @@ pub fn collect(out: &mut [u8], filled: usize, text: &[u8]) -> usize
     }
     io::write_all(STDOUT_FILENO, text);
     0
+}
+
+// Collects a text; what is put by many calls is promised as the list of the texts.
+pub fn say(out: &mut [u8], filled: usize, text: &[u8]) -> usize
+    ensures { λ r. ⌜ Says (now (out .entry)) filled (now (text .entry) ∷ []) (now (out .exit)) r ⌝ }
+{
+    collect(out, filled, text)
+}
+
+// Says a number in decimal.
+pub fn say_number(out: &mut [u8], filled: usize, n: u64) -> usize
+    ensures { λ r. ⌜ Says (now (out .entry)) filled (decimal n ∷ []) (now (out .exit)) r ⌝ }
+{
+    let mut digits = [0u8; 20];
+    let k = io::decimal(n, &mut digits);
+    say(out, filled, &digits[..k])
 }
 
 // Puts the line of a report behind the octets that are filled, as collect does.

@@ -1,4 +1,4 @@
 // The trace program on worked conferences: empty (tests/conferences).
 fn main() {
-    tracing::run(false);
+    tracing::run(tracing::Form::Lines);
 }

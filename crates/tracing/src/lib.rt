@@ -13,11 +13,18 @@ use streams::lines::Report;
 // Room for answers that never meets reply 9.
 const ROOM: usize = 17200;
 
-// Where the run stands: what is not taken of the input, what is filled of the output, whether the octets sent are shown, and whether to go on.
+// How a run shows its frames: a line each, a line and the octets sent, or in words.
+pub enum Form {
+    Lines,
+    Sent,
+    Words,
+}
+
+// Where the run stands: what is not taken of the input, what is filled of the output, the number of the next frame, and whether to go on.
 struct Turn {
     span: Span,
     filled: usize,
-    shows: bool,
+    number: u64,
     more: bool,
 }
 
@@ -171,55 +178,93 @@ fn report(taken: Taken, names: &[u16; 64], ids: &[u16; 128], keys: &[u16; 64]) -
     }
 }
 
-// Prints the line of what was taken, if it has one, and answers what is filled then.
-fn print(output: &mut [u8], filled: usize, line: bool, report: Report) -> usize {
-    if line {
-        return streams::lines::add_line(output, filled, report);
-    }
-    filled
-}
-
-// A digit of an octet in hexadecimal.
-fn digit(n: u8) -> u8 {
-    if n < 10 {
-        b'0' + n
-    } else {
-        b'A' + (n - 10) % 6
-    }
-}
-
-// Puts the octets of a part of the room in hexadecimal.
-fn print_octets(output: &mut [u8], filled: usize, octets: &[u8]) -> usize {
-    let mut at = filled;
-    let mut i = 0;
-    while i < octets.len() {
-        let text = [digit(octets[i] / 16), digit(octets[i] % 16)];
-        at = streams::lines::collect(output, at, &text);
-        i += 1;
-    }
-    at
-}
-
-// Prints the octets sent on a line of their own, where they are to be shown.
-fn print_sent(
-    output: &mut [u8],
-    filled: usize,
-    shows: bool,
-    room: &[u8; ROOM],
-    sent: usize,
-) -> usize {
-    if !shows {
-        return filled;
-    }
+// Prints the line of a report, and behind it the octets sent on a line of their own.
+fn print_sent(output: &mut [u8], filled: usize, report: Report, room: &[u8; ROOM]) -> usize {
+    let at = streams::lines::add_line(output, filled, report);
+    let sent = (report.sent % 65536) as usize;
     let all = &room[..];
     if all.len() < sent {
-        return filled;
+        return at;
     }
-    let at = print_octets(output, filled, &all[..sent]);
-    streams::lines::collect(output, at, b"\n")
+    let end = streams::hexadecimal::say_octets(output, at, &all[..sent], false);
+    streams::lines::collect(output, end, b"\n")
 }
 
-// Takes one frame and prints its line. The run goes on behind a good frame.
+// Shows a frame in the form of the run, and answers what is filled then.
+fn show(
+    output: &mut [u8],
+    filled: usize,
+    form: Form,
+    number: u64,
+    s: &[u8],
+    report: Report,
+    room: &[u8; ROOM],
+    names: &[u16; 64],
+    keys: &[u16; 64],
+    modes: &[u8; 64],
+    values: &[u64; 64],
+    old_keys: &mut [u16; 64],
+    old_modes: &mut [u8; 64],
+    old_values: &mut [u64; 64],
+) -> usize {
+    match form {
+        Form::Lines => streams::lines::add_line(output, filled, report),
+        Form::Sent => print_sent(output, filled, report, room),
+        Form::Words => explaining::put_frame(
+            output,
+            filled,
+            number,
+            s,
+            report,
+            room,
+            names,
+            keys,
+            modes,
+            values,
+            old_keys,
+            old_modes,
+            old_values,
+        ),
+    }
+}
+
+// Shows what the run ends with: in words, the table of the tokens.
+fn show_end(
+    output: &mut [u8],
+    filled: usize,
+    form: Form,
+    names: &[u16; 64],
+    keys: &[u16; 64],
+    modes: &[u8; 64],
+    values: &[u64; 64],
+) -> usize {
+    match form {
+        Form::Lines => filled,
+        Form::Sent => filled,
+        Form::Words => explaining::tokens::put_table(output, filled, names, keys, modes, values),
+    }
+}
+
+// What is left of a span behind its first octets; nothing where it has fewer.
+fn behind(span: Span, size: usize) -> Span {
+    if span.to < span.from {
+        return span;
+    }
+    if span.to - span.from < size {
+        return Span {
+            from: span.to,
+            to: span.to,
+            ended: span.ended,
+        };
+    }
+    Span {
+        from: span.from + size,
+        to: span.to,
+        ended: span.ended,
+    }
+}
+
+// Takes one frame and shows it. The run goes on behind a good frame.
 fn step(
     input: &mut [u8],
     output: &mut [u8],
@@ -235,7 +280,11 @@ fn step(
     keys: &mut [u16; 64],
     modes: &mut [u8; 64],
     values: &mut [u64; 64],
+    old_keys: &mut [u16; 64],
+    old_modes: &mut [u8; 64],
+    old_values: &mut [u64; 64],
     room: &mut [u8; ROOM],
+    form: Form,
     at: Turn,
 ) -> Turn {
     let have = at.span;
@@ -258,22 +307,35 @@ fn step(
         values,
         room,
     );
-    let next = from + taken.size;
-    let lined = print(
+    let rest = behind(span, taken.size);
+    if !taken.line {
+        return Turn {
+            span: rest,
+            filled: at.filled,
+            number: at.number,
+            more: false,
+        };
+    }
+    let filled = show(
         output,
         at.filled,
-        taken.line,
+        form,
+        at.number,
+        &input[from..to],
         report(taken, names, ids, keys),
+        room,
+        names,
+        keys,
+        modes,
+        values,
+        old_keys,
+        old_modes,
+        old_values,
     );
-    let filled = print_sent(output, lined, at.shows && taken.line, room, taken.sent);
     Turn {
-        span: Span {
-            from: next,
-            to,
-            ended: span.ended,
-        },
+        span: rest,
         filled,
-        shows: at.shows,
+        number: std::num::wrapping_add_u64(at.number, 1),
         more: taken.more,
     }
 }
@@ -294,13 +356,16 @@ fn play(
     keys: &mut [u16; 64],
     modes: &mut [u8; 64],
     values: &mut [u64; 64],
+    old_keys: &mut [u16; 64],
+    old_modes: &mut [u8; 64],
+    old_values: &mut [u64; 64],
     room: &mut [u8; ROOM],
-    shows: bool,
+    form: Form,
 ) {
     let mut at = Turn {
         span: streams::input::start(),
         filled: 0,
-        shows,
+        number: 1,
         more: true,
     };
     let mut turns = u64::MAX;
@@ -320,17 +385,22 @@ fn play(
             keys,
             modes,
             values,
+            old_keys,
+            old_modes,
+            old_values,
             room,
+            form,
             at,
         );
         turns -= 1;
     }
-    streams::lines::flush(output, at.filled);
+    let filled = show_end(output, at.filled, form, names, keys, modes, values);
+    streams::lines::flush(output, filled);
 }
 
 // A fresh domain with limits 128, 64, 64. The input's buffer holds the longest frame, 65,537 octets, and as much again, so that few octets are
-// moved. With `shows` the octets sent for each frame follow its line, in hexadecimal.
-pub fn run(shows: bool) {
+// moved. The tokens as they were before a frame stand beside the tables, for a run in words.
+pub fn run(form: Form) {
     let mut input = [0u8; 131072];
     let mut output = [0u8; 65536];
     let mut room = [0u8; ROOM];
@@ -345,6 +415,9 @@ pub fn run(shows: bool) {
     let mut keys = [0u16; 64];
     let mut modes = [0u8; 64];
     let mut values = [0u64; 64];
+    let mut old_keys = [0u16; 64];
+    let mut old_modes = [0u8; 64];
+    let mut old_values = [0u64; 64];
     let started = provider::starting::start(
         128,
         64,
@@ -376,7 +449,10 @@ pub fn run(shows: bool) {
         &mut keys,
         &mut modes,
         &mut values,
+        &mut old_keys,
+        &mut old_modes,
+        &mut old_values,
         &mut room,
-        shows,
+        form,
     );
 }

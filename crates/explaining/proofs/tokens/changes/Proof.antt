@@ -1,0 +1,96 @@
+-- `explaining::tokens::changes` is safe and ends. Assumes nothing.
+use Prim.Native.Nat.{_≤_, _-_}
+use borrow.Author.Needs.{needs}
+use Rattle.explaining.proofs.tokens.changes.Statement.{statement}
+use Rattle.explaining.proofs.tokens.changes.Tie as tie
+use Rattle.explaining.proofs.tokens.changes.Reads as reads
+use Rattle.explaining.proofs.tokens.changes.Lts as lts
+use Rattle.explaining.proofs.tokens.took.Reads as took-reads
+
+abbrev Inv-loop : tie.InvT-loop
+Inv-loop keys modes values old-keys₀ old-modes₀ old-values₀ list₀ i₀ old-keys old-modes old-values list i = i ≤ 64
+
+abbrev μ-loop : tie.MeasureT-loop
+μ-loop keys modes values old-keys₀ old-modes₀ old-values₀ list₀ i₀ old-keys old-modes old-values list i = 64 - i
+
+-- src/tokens.rt:149:5
+loop-holds : tie.Need-loop-holds Inv-loop μ-loop
+loop-holds c = search needs
+
+-- src/tokens.rt:150:19
+mul-was : tie.Need-mul-was Inv-loop μ-loop
+mul-was c = search needs
+
+-- src/tokens.rt:150:19
+element-copy-out-was : tie.Need-element-copy-out-was Inv-loop μ-loop
+element-copy-out-was c = search needs
+
+-- src/tokens.rt:151:12
+took-requires : tie.Need-took-requires Inv-loop μ-loop
+took-requires c κs = search needs
+
+-- src/tokens.rt:152:13
+mul-list : tie.Need-mul-list Inv-loop μ-loop
+mul-list c = search needs
+
+-- src/tokens.rt:152:13
+array-write-list : tie.Need-array-write-list Inv-loop μ-loop
+array-write-list c = search needs
+
+-- src/tokens.rt:153:28
+mul-list-2 : tie.Need-mul-list-2 Inv-loop μ-loop
+mul-list-2 c = search needs
+
+-- src/tokens.rt:153:28
+element-copy-out-list : tie.Need-element-copy-out-list Inv-loop μ-loop
+element-copy-out-list c = search needs
+
+-- src/tokens.rt:153:18
+add-list : tie.Need-add-list Inv-loop μ-loop
+add-list c = search needs
+
+-- src/tokens.rt:153:13
+mul-list-3 : tie.Need-mul-list-3 Inv-loop μ-loop
+mul-list-3 c = search needs
+
+-- src/tokens.rt:153:13
+array-write-list-2 : tie.Need-array-write-list-2 Inv-loop μ-loop
+array-write-list-2 c = search needs
+
+-- src/tokens.rt:155:9
+add-i : tie.Need-add-i Inv-loop μ-loop
+add-i c = search needs
+
+-- src/tokens.rt:149:5
+loop-less : tie.Need-loop-less Inv-loop μ-loop
+loop-less c = search needs
+
+-- src/tokens.rt:149:5
+loop-again : tie.Need-loop-again Inv-loop μ-loop
+loop-again c = search needs
+
+-- src/tokens.rt:139:1
+returns : tie.Need-returns Inv-loop μ-loop
+returns c = search needs
+
+pub changes-spec : {M : Type 1} → statement M
+changes-spec =
+    tie.close
+    (tie.spec
+    Inv-loop
+    μ-loop
+    loop-holds
+    mul-was
+    element-copy-out-was
+    took-requires
+    mul-list
+    array-write-list
+    mul-list-2
+    element-copy-out-list
+    add-list
+    mul-list-3
+    array-write-list-2
+    add-i
+    loop-less
+    loop-again
+    returns)

@@ -1,0 +1,48 @@
+// The records sent for a frame, a line each.
+ghost use Prim.Native.Nat.{_≤_};
+ghost use lib.ListN.{length};
+use streams::lines::say;
+use streams::lines::say_number;
+
+// How many octets the record at the front has; 0 where there is none.
+fn size_at(records: &[u8]) -> usize
+    ensures { λ r. ⌜ r ≤ length (now (records .entry)) ⌝ }
+{
+    if records.len() < 4 {
+        return 0;
+    }
+    let n = frames::following(records[0], records[1]);
+    if n < 2 {
+        return 0;
+    }
+    if records.len() - 2 < n {
+        return 0;
+    }
+    n + 2
+}
+
+// A record: to which connection, and the message in words.
+fn put_record(out: &mut [u8], filled: usize, record: &[u8]) -> usize {
+    if record.len() < 4 {
+        return filled;
+    }
+    let a = say(out, filled, b"  to connection ");
+    let b = say_number(out, a, octets::wide(record[3]) as u64);
+    let c = say(out, b, b": ");
+    let d = phrasing::message::put_message(out, c, &record[4..]);
+    say(out, d, b"\n")
+}
+
+// Records one behind the other.
+pub fn put_records(out: &mut [u8], filled: usize, records: &[u8]) -> usize {
+    let mut at = filled;
+    let mut from = 0;
+    let mut size = size_at(records);
+    while 0 < size {
+        let end = from + size;
+        at = put_record(out, at, &records[from..end]);
+        from = end;
+        size = size_at(&records[from..]);
+    }
+    at
+}

@@ -1,0 +1,189 @@
+// Who holds or is offered which token: the changes that a frame made, and the table.
+use domain::token::Holding;
+use streams::lines::say;
+use streams::lines::say_number;
+
+// The ids of a column, ascending, each behind a space.
+fn put_rising(out: &mut [u8], filled: usize, ids: &[u16]) -> usize {
+    let mut at = filled;
+    let mut low: u16 = 0;
+    let mut left = ids.len();
+    while 0 < left {
+        let k = places::columns::next(ids, low);
+        if k == 0 {
+            return at;
+        }
+        at = phrasing::message::put_id(out, at, k);
+        low = k;
+        left -= 1;
+    }
+    at
+}
+
+// The id of the user at a place, or 0.
+fn name_at(names: &[u16; 64], i: u8) -> u16 {
+    let all = &names[..];
+    let k = i as usize;
+    if k < all.len() {
+        return all[k];
+    }
+    0
+}
+
+// The id of a user if a set has its place, or 0.
+fn chosen(us: u64, i: usize, id: u16) -> u16 {
+    if places::masks::has(us, (i % 64) as u8) {
+        return id;
+    }
+    0
+}
+
+// The ids of the users at the places of a set.
+fn members(names: &[u16; 64], us: u64) -> [u16; 64] {
+    let mut ids = [0u16; 64];
+    let mut i = 0;
+    while i < 64 {
+        ids[i] = chosen(us, i, names[i]);
+        i += 1;
+    }
+    ids
+}
+
+// A user's id behind a text.
+fn put_user(out: &mut [u8], filled: usize, text: &[u8], names: &[u16; 64], i: u8) -> usize {
+    let a = say(out, filled, text);
+    phrasing::message::put_id(out, a, name_at(names, i))
+}
+
+// The state of a token.
+fn put_holding(out: &mut [u8], filled: usize, names: &[u16; 64], h: Holding) -> usize {
+    match h {
+        Holding::Free => say(out, filled, b"free"),
+        Holding::Grabbed(g) => put_user(out, filled, b"grabbed by", names, g),
+        Holding::Inhibited(us) => {
+            let a = say(out, filled, b"inhibited by");
+            put_rising(out, a, &members(names, us))
+        }
+        Holding::Giving(g, r) => {
+            let a = put_user(out, filled, b"giving from", names, g);
+            put_user(out, a, b" to", names, r)
+        }
+        Holding::Given(r) => put_user(out, filled, b"given to", names, r),
+    }
+}
+
+// A token's line.
+fn put_token(out: &mut [u8], filled: usize, names: &[u16; 64], k: u16, h: Holding) -> usize {
+    let a = say(out, filled, b"  token ");
+    let b = say_number(out, a, k as u64);
+    let c = say(out, b, b": ");
+    let d = put_holding(out, c, names, h);
+    say(out, d, b"\n")
+}
+
+// A line for each token of a list, ascending.
+fn put_tokens(
+    out: &mut [u8],
+    filled: usize,
+    names: &[u16; 64],
+    keys: &[u16; 64],
+    modes: &[u8; 64],
+    values: &[u64; 64],
+    list: &[u16],
+) -> usize {
+    let mut at = filled;
+    let mut low: u16 = 0;
+    let mut left = list.len();
+    while 0 < left {
+        let k = places::columns::next(list, low);
+        if k == 0 {
+            return at;
+        }
+        at = put_token(
+            out,
+            at,
+            names,
+            k,
+            tables::tokens::state(keys, modes, values, k),
+        );
+        low = k;
+        left -= 1;
+    }
+    at
+}
+
+// Takes a place's numbers over and answers whether they were others.
+fn took(
+    keys: &[u16; 64],
+    modes: &[u8; 64],
+    values: &[u64; 64],
+    old_keys: &mut [u16; 64],
+    old_modes: &mut [u8; 64],
+    old_values: &mut [u64; 64],
+    i: usize,
+) -> bool {
+    if 64 <= i {
+        return false;
+    }
+    let k = keys[i];
+    let m = modes[i];
+    let v = values[i];
+    let changed = old_keys[i] != k || old_modes[i] != m || old_values[i] != v;
+    old_keys[i] = k;
+    old_modes[i] = m;
+    old_values[i] = v;
+    changed
+}
+
+// The ids of the places that changed since, before and after; the columns before become those after.
+fn changes(
+    keys: &[u16; 64],
+    modes: &[u8; 64],
+    values: &[u64; 64],
+    old_keys: &mut [u16; 64],
+    old_modes: &mut [u8; 64],
+    old_values: &mut [u64; 64],
+) -> [u16; 128] {
+    let mut list = [0u16; 128];
+    let mut i = 0;
+    while i < 64 {
+        let was = old_keys[i];
+        if took(keys, modes, values, old_keys, old_modes, old_values, i) {
+            list[i] = was;
+            list[64 + i] = keys[i];
+        }
+        i += 1;
+    }
+    list
+}
+
+// A line for each token that changed since, ascending.
+pub fn put_changes(
+    out: &mut [u8],
+    filled: usize,
+    names: &[u16; 64],
+    keys: &[u16; 64],
+    modes: &[u8; 64],
+    values: &[u64; 64],
+    old_keys: &mut [u16; 64],
+    old_modes: &mut [u8; 64],
+    old_values: &mut [u64; 64],
+) -> usize {
+    let list = changes(keys, modes, values, old_keys, old_modes, old_values);
+    put_tokens(out, filled, names, keys, modes, values, &list)
+}
+
+// The table: how many tokens are in use, and a line for each.
+pub fn put_table(
+    out: &mut [u8],
+    filled: usize,
+    names: &[u16; 64],
+    keys: &[u16; 64],
+    modes: &[u8; 64],
+    values: &[u64; 64],
+) -> usize {
+    let a = say(out, filled, b"tokens in use: ");
+    let b = say_number(out, a, places::columns::used(keys) as u64);
+    let c = say(out, b, b"\n");
+    put_tokens(out, c, names, keys, modes, values, keys)
+}

@@ -1,0 +1,3 @@
+// Messages in words, and where the reading of one stopped.
+pub mod message;
+pub mod stop;
