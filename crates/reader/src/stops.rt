@@ -3,6 +3,7 @@ ghost use mathlib.Core.Path.{_≡_};
 ghost use Prim.Native.Nat.{_*_, _≤_};
 ghost use lib.ListN.{length};
 ghost use Rattle.messages.specs.Limits.{message-limit};
+ghost use Rattle.messages.specs.Columns.{packedAt};
 ghost use Rattle.octets.specs.Places.{leftAt};
 ghost use Rattle.reader.specs.Reading.{bodyAt, rowAt, decodeOf};
 ghost use Rattle.reader.specs.Stops.{refusalOf};
@@ -13,9 +14,10 @@ use crate::take_bits;
 use crate::take_code;
 use crate::take_fields;
 use messages::MESSAGE_LIMIT;
-use messages::count_of;
-use messages::kind_of;
-use messages::tail_of;
+use messages::count_in;
+use messages::entry_of;
+use messages::kind_in;
+use messages::tail_in;
 use octets::Got;
 use octets::read_id;
 use octets::read_length;
@@ -178,12 +180,12 @@ fn stop_field(s: &[u8], at: usize, i: usize, kind: u8, refusal: u8) -> Stop
 }
 
 // How many of the first fields of a message are read.
-fn fields_read(s: &[u8], from: usize, number: u32, count: usize) -> usize
-    requires { ⌜ (from ≤ length (now s) * 8) × (length (now s) ≤ message-limit) × (count ≤ 4) ⌝ }
+fn fields_read(s: &[u8], from: usize, number: u32, line: u32, count: usize) -> usize
+    requires { ⌜ (from ≤ length (now s) * 8) × (length (now s) ≤ message-limit) × (count ≤ 4) × (line ≡ packedAt number) ⌝ }
 {
     let mut i = 0;
     while i < count {
-        let f = take_fields(s, from, number, i + 1);
+        let f = take_fields(s, from, number, line, i + 1);
         if !f.ok {
             return i;
         }
@@ -253,17 +255,17 @@ fn behind_fields(kind: u8) -> Part {
 }
 
 // Where the fields of a message, from the bit at on, or what follows them, are refused.
-fn stop_body(s: &[u8], at: usize, count: usize, number: u32) -> Stop
-    requires { ⌜ (at ≤ length (now s) * 8) × (length (now s) ≤ message-limit) × (count ≤ 4) ⌝ }
+fn stop_body(s: &[u8], at: usize, count: usize, number: u32, line: u32) -> Stop
+    requires { ⌜ (at ≤ length (now s) * 8) × (length (now s) ≤ message-limit) × (count ≤ 4) × (line ≡ packedAt number) ⌝ }
     ensures { λ r. ⌜ r .refusal ≡ refusalOf (bodyAt (now (s .entry)) at count number) ⌝ }
 {
-    let f = take_fields(s, at, number, count);
+    let f = take_fields(s, at, number, line, count);
     if !f.ok {
-        let i = fields_read(s, at, number, count);
-        return stop_field(s, f.at, i, kind_of(number, i), f.refusal);
+        let i = fields_read(s, at, number, line, count);
+        return stop_field(s, f.at, i, kind_in(line, i), f.refusal);
     }
     let end = f.at;
-    let kind = tail_of(number);
+    let kind = tail_in(line);
     if bits_at(s, end) != 0 {
         return Stop {
             refusal: 5,
@@ -296,11 +298,12 @@ fn stop_row(s: &[u8], at: usize, number: u32) -> Stop
     requires { ⌜ (at ≤ length (now s) * 8) × (length (now s) ≤ message-limit) × (leftAt at ≡ 2) ⌝ }
     ensures { λ r. ⌜ r .refusal ≡ refusalOf (rowAt (now (s .entry)) at number) ⌝ }
 {
-    let count = count_of(number);
-    let g = presence(s, at, number);
+    let line = entry_of(number);
+    let count = count_in(line);
+    let g = presence(s, at, number, line);
     match g {
         Got::No(n) => at_octet(n, 0, Part::Number, why_refused(n)),
-        Got::Value(more, next) => stop_body(s, next, count + more as usize, number),
+        Got::Value(more, next) => stop_body(s, next, count + more as usize, number, line),
     }
 }
 

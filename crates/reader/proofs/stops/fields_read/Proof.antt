@@ -8,10 +8,10 @@ use Rattle.reader.proofs.stops.fields_read.Lts as lts
 use Rattle.reader.proofs.take_fields.Reads as take-fields-reads
 
 abbrev Inv-loop : tie.InvT-loop
-Inv-loop s from number count i₀ i = i ≤ count
+Inv-loop s from number line count i₀ i = i ≤ count
 
 abbrev μ-loop : tie.MeasureT-loop
-μ-loop s from number count i₀ i = count - i
+μ-loop s from number line count i₀ i = count - i
 
 -- src/stops.rt:185:5
 loop-holds : tie.Need-loop-holds Inv-loop μ-loop

@@ -1,5 +1,6 @@
 -- `reader::stops::stop_body` meets its contract: each stop has the refusal that reading has there. Assumes nothing.
-use mathlib.Core.Path.{refl}
+use mathlib.Core.Path.{refl, _∙_}
+use Rattle.messages.proofs.ColumnLaws.{tail-at}
 use Rattle.reader.proofs.StopLaws.{stops-with, stops-never}
 use Rattle.reader.proofs.BodyLaws.{body-no, body-pad, body-tail-no, body-over, body-is}
 use borrow.Author.Tests.{not-true, not-false}
@@ -8,8 +9,8 @@ use Rattle.reader.proofs.stops.stop_body.Statement.{statement}
 use Rattle.reader.proofs.stops.stop_body.Tie as tie
 use Rattle.reader.proofs.stops.stop_body.Reads as reads
 use Rattle.reader.proofs.stops.stop_body.Lts as lts
-use Rattle.messages.proofs.kind_of.Reads as kind-of-reads
-use Rattle.messages.proofs.tail_of.Reads as tail-of-reads
+use Rattle.messages.proofs.kind_in.Reads as kind-in-reads
+use Rattle.messages.proofs.tail_in.Reads as tail-in-reads
 use Rattle.reader.proofs.bits_at.Reads as bits-at-reads
 use Rattle.reader.proofs.read_tail.Reads as read-tail-reads
 use Rattle.reader.proofs.stops.at_octet.Reads as at-octet-reads
@@ -28,8 +29,8 @@ fields-read-requires : tie.Need-fields-read-requires
 fields-read-requires c κs = search needs
 
 -- src/stops.rt:263:39
-kind-of-requires : tie.Need-kind-of-requires
-kind-of-requires c κs = search needs
+kind-in-requires : tie.Need-kind-in-requires
+kind-in-requires c κs = search needs
 
 -- src/stops.rt:263:9
 stop-field-requires : tie.Need-stop-field-requires
@@ -40,8 +41,8 @@ returns : tie.Need-returns
 returns c = stops-with _ _ _ (c .stop-field .ensures) (body-no _ _ _ _ (c .before .before .before .before .before .take-fields .result) (c .before .before .before .before .before .take-fields .ensures) (not-true _ (c .before .before .before .if1 .taken)))
 
 -- src/stops.rt:266:9
-tail-of-requires : tie.Need-tail-of-requires
-tail-of-requires c κs = search needs
+tail-in-requires : tie.Need-tail-in-requires
+tail-in-requires c κs = search needs
 
 -- src/stops.rt:267:8
 bits-at-requires : tie.Need-bits-at-requires
@@ -69,7 +70,7 @@ stop-items-requires c κs = search needs
 
 -- src/stops.rt:278:9
 returns-3 : tie.Need-returns-3
-returns-3 c = stops-with _ _ _ (c .stop-items .ensures) (body-tail-no _ _ _ _ (c .before .before .before .before .before .before .before .before .before .take-fields .result) (c .before .before .before .before .before .before .before .before .before .take-fields .ensures) (not-false _ (c .before .before .before .before .before .before .before .if1 .left)) (c .before .before .before .before .before .bits-at .result) (c .before .before .before .before .before .bits-at .ensures .0) (c .before .before .before .before .if2 .left) _ (c .before .before .before .before .before .before .tail-of .ensures) (c .before .before .before .read-tail .result) (c .before .before .before .read-tail .ensures) (not-true _ (c .before .if3 .taken)))
+returns-3 c = stops-with _ _ _ (c .stop-items .ensures) (body-tail-no _ _ _ _ (c .before .before .before .before .before .before .before .before .before .take-fields .result) (c .before .before .before .before .before .before .before .before .before .take-fields .ensures) (not-false _ (c .before .before .before .before .before .before .before .if1 .left)) (c .before .before .before .before .before .bits-at .result) (c .before .before .before .before .before .bits-at .ensures .0) (c .before .before .before .before .if2 .left) _ (c .before .before .before .before .before .before .tail-in .ensures ∙ tail-at _ _ (c .before .before .before .before .before .before .before .before .before .before .before .pre .3)) (c .before .before .before .read-tail .result) (c .before .before .before .read-tail .ensures) (not-true _ (c .before .if3 .taken)))
 
 -- src/stops.rt:281:9
 at-octet-requires : tie.Need-at-octet-requires
@@ -77,7 +78,7 @@ at-octet-requires c κs = search needs
 
 -- src/stops.rt:281:9
 returns-4 : tie.Need-returns-4
-returns-4 c = stops-with _ _ _ (c .at-octet .ensures) (body-over _ _ _ _ (c .before .before .before .before .before .before .before .before .before .before .before .take-fields .result) (c .before .before .before .before .before .before .before .before .before .before .before .take-fields .ensures) (not-false _ (c .before .before .before .before .before .before .before .before .before .if1 .left)) (c .before .before .before .before .before .before .before .bits-at .result) (c .before .before .before .before .before .before .before .bits-at .ensures .0) (c .before .before .before .before .before .before .if2 .left) _ (c .before .before .before .before .before .before .before .before .tail-of .ensures) (c .before .before .before .before .before .read-tail .result) (c .before .before .before .before .before .read-tail .ensures) (not-false _ (c .before .before .before .if3 .left)) (c .before .if4 .taken))
+returns-4 c = stops-with _ _ _ (c .at-octet .ensures) (body-over _ _ _ _ (c .before .before .before .before .before .before .before .before .before .before .before .take-fields .result) (c .before .before .before .before .before .before .before .before .before .before .before .take-fields .ensures) (not-false _ (c .before .before .before .before .before .before .before .before .before .if1 .left)) (c .before .before .before .before .before .before .before .bits-at .result) (c .before .before .before .before .before .before .before .bits-at .ensures .0) (c .before .before .before .before .before .before .if2 .left) _ (c .before .before .before .before .before .before .before .before .tail-in .ensures ∙ tail-at _ _ (c .before .before .before .before .before .before .before .before .before .before .before .before .before .pre .3)) (c .before .before .before .before .before .read-tail .result) (c .before .before .before .before .before .read-tail .ensures) (not-false _ (c .before .before .before .if3 .left)) (c .before .if4 .taken))
 
 -- src/stops.rt:283:5
 at-octet-requires-2 : tie.Need-at-octet-requires-2
@@ -85,7 +86,7 @@ at-octet-requires-2 c κs = search needs
 
 -- src/stops.rt:256:1
 returns-5 : tie.Need-returns-5
-returns-5 c = stops-never _ _ _ _ (c .at-octet2 .ensures) refl (body-is _ _ _ _ (c .before .before .before .before .before .before .before .before .before .before .before .take-fields .result) (c .before .before .before .before .before .before .before .before .before .before .before .take-fields .ensures) (not-false _ (c .before .before .before .before .before .before .before .before .before .if1 .left)) (c .before .before .before .before .before .before .before .bits-at .result) (c .before .before .before .before .before .before .before .bits-at .ensures .0) (c .before .before .before .before .before .before .if2 .left) _ (c .before .before .before .before .before .before .before .before .tail-of .ensures) (c .before .before .before .before .before .read-tail .result) (c .before .before .before .before .before .read-tail .ensures) (not-false _ (c .before .before .before .if3 .left)) (c .before .if4 .left))
+returns-5 c = stops-never _ _ _ _ (c .at-octet2 .ensures) refl (body-is _ _ _ _ (c .before .before .before .before .before .before .before .before .before .before .before .take-fields .result) (c .before .before .before .before .before .before .before .before .before .before .before .take-fields .ensures) (not-false _ (c .before .before .before .before .before .before .before .before .before .if1 .left)) (c .before .before .before .before .before .before .before .bits-at .result) (c .before .before .before .before .before .before .before .bits-at .ensures .0) (c .before .before .before .before .before .before .if2 .left) _ (c .before .before .before .before .before .before .before .before .tail-in .ensures ∙ tail-at _ _ (c .before .before .before .before .before .before .before .before .before .before .before .before .before .pre .3)) (c .before .before .before .before .before .read-tail .result) (c .before .before .before .before .before .read-tail .ensures) (not-false _ (c .before .before .before .if3 .left)) (c .before .if4 .left))
 
 pub stop-body-spec : {M : Type 1} → statement M
 stop-body-spec =
@@ -93,10 +94,10 @@ stop-body-spec =
     (tie.spec
     take-fields-requires
     fields-read-requires
-    kind-of-requires
+    kind-in-requires
     stop-field-requires
     returns
-    tail-of-requires
+    tail-in-requires
     bits-at-requires
     behind-fields-requires
     returns-2

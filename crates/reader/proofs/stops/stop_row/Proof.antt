@@ -1,4 +1,6 @@
 -- `reader::stops::stop_row` meets its contract: a refused number, or the stop behind it. Assumes nothing.
+use mathlib.Core.Path.{_∙_}
+use Rattle.messages.proofs.ColumnLaws.{count-at}
 use Rattle.reader.proofs.StopLaws.{stops-with, stops-as}
 use Rattle.reader.proofs.RowLaws.{on-no, on-body}
 use borrow.Author.Needs.{needs}
@@ -6,15 +8,19 @@ use Rattle.reader.proofs.stops.stop_row.Statement.{statement}
 use Rattle.reader.proofs.stops.stop_row.Tie as tie
 use Rattle.reader.proofs.stops.stop_row.Reads as reads
 use Rattle.reader.proofs.stops.stop_row.Lts as lts
-use Rattle.messages.proofs.count_of.Reads as count-of-reads
+use Rattle.messages.proofs.count_in.Reads as count-in-reads
+use Rattle.messages.proofs.entry_of.Reads as entry-of-reads
 use Rattle.reader.proofs.presence.Reads as presence-reads
 use Rattle.reader.proofs.stops.at_octet.Reads as at-octet-reads
 use Rattle.reader.proofs.stops.stop_body.Reads as stop-body-reads
 use Rattle.reader.proofs.stops.why_refused.Reads as why-refused-reads
 
 -- src/stops.rt:299:9
-count-of-requires : tie.Need-count-of-requires
-count-of-requires c κs = search needs
+entry-of-requires : tie.Need-entry-of-requires
+entry-of-requires c κs = search needs
+
+count-in-requires : tie.Need-count-in-requires
+count-in-requires c κs = search needs
 
 -- src/stops.rt:300:9
 presence-requires : tie.Need-presence-requires
@@ -46,7 +52,7 @@ add-stop-body c = search needs
 
 -- src/stops.rt:303:35
 stop-body-requires : tie.Need-stop-body-requires
-stop-body-requires c κs = let b = on-body _ _ _ _ (c .before .before .before .presence .ensures) _ _ (c .before .g2 .given .1) in (b .1, search needs, rw (c .before .before .before .before .count-of .ensures .0) (b .2))
+stop-body-requires c κs = let b = on-body _ _ _ _ (c .before .before .before .presence .ensures) _ _ (c .before .g2 .given .1) in (b .1, search needs, rw (c .before .before .before .before .count-in .ensures ∙ count-at _ _ (c .before .before .before .before .before .entry-of .ensures)) (b .2), c .before .before .before .before .before .entry-of .ensures)
 
 -- src/stops.rt:295:1
 returns : tie.Need-returns
@@ -54,13 +60,14 @@ returns c = stops-with _ _ _ (c .at-octet .ensures) (on-no _ _ _ _ (c .before .b
 
 -- src/stops.rt:295:1
 returns-2 : tie.Need-returns-2
-returns-2 c = stops-as _ _ _ (c .stop-body .ensures) (rw (c .before .before .before .before .before .count-of .ensures .0) (on-body _ _ _ _ (c .before .before .before .before .presence .ensures) _ _ (c .before .before .g2 .given .1) .0))
+returns-2 c = stops-as _ _ _ (c .stop-body .ensures) (rw (c .before .before .before .before .before .count-in .ensures ∙ count-at _ _ (c .before .before .before .before .before .before .entry-of .ensures)) (on-body _ _ _ _ (c .before .before .before .before .presence .ensures) _ _ (c .before .before .g2 .given .1) .0))
 
 pub stop-row-spec : {M : Type 1} → statement M
 stop-row-spec =
     tie.close
     (tie.spec
-    count-of-requires
+    entry-of-requires
+    count-in-requires
     presence-requires
     enum-known-g
     why-refused-requires
