@@ -3,7 +3,6 @@ ghost use Prim.Native.Nat.{_≤_};
 ghost use lib.ListN.{length};
 
 mod sent;
-pub mod tokens;
 
 use frames::Frame;
 use frames::Kind;
@@ -184,7 +183,7 @@ pub fn put_frame(
     let b = put_front(out, a, s, report.reply);
     let c = put_reply(out, b, report);
     let d = put_sent(out, c, room, report.sent);
-    tokens::put_changes(
+    holders::put_changes(
         out,
         d,
         names,

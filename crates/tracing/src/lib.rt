@@ -241,7 +241,7 @@ fn show_end(
     match form {
         Form::Lines => filled,
         Form::Sent => filled,
-        Form::Words => explaining::tokens::put_table(output, filled, names, keys, modes, values),
+        Form::Words => holders::put_table(output, filled, names, keys, modes, values),
     }
 }
 

@@ -1,10 +1,22 @@
 // Who holds or is offered which token: the changes that a frame made, and the table.
+ghost use mathlib.Core.Path.{_≡_};
+ghost use mathlib.Core.List.{_∷_};
+ghost use Prim.Native.Nat.{_%_};
+ghost use lib.ListN.{getD};
+ghost use Rattle.places.specs.Sets.{if_then_else_, has};
+ghost use Rattle.places.specs.Places.{inOrder};
+ghost use Rattle.domain.specs.Tables.{tokens-of};
+ghost use Rattle.streams.specs.Lines.{Says};
+ghost use Rattle.phrasing.specs.Messages.{idTexts};
+ghost use Rattle.holders.specs.Holders.{over, membersFrom, holdingTexts, tokenTexts, stateTexts, tableTexts};
 use domain::token::Holding;
 use streams::lines::say;
 use streams::lines::say_number;
 
 // The ids of a column, ascending, each behind a space.
-fn put_rising(out: &mut [u8], filled: usize, ids: &[u16]) -> usize {
+fn put_rising(out: &mut [u8], filled: usize, ids: &[u16]) -> usize
+    ensures { λ r. ⌜ Says (now (out .entry)) filled (over idTexts (inOrder (now (ids .entry)))) (now (out .exit)) r ⌝ }
+{
     let mut at = filled;
     let mut low: u16 = 0;
     let mut left = ids.len();
@@ -21,7 +33,9 @@ fn put_rising(out: &mut [u8], filled: usize, ids: &[u16]) -> usize {
 }
 
 // The id of the user at a place, or 0.
-fn name_at(names: &[u16; 64], i: u8) -> u16 {
+fn name_at(names: &[u16; 64], i: u8) -> u16
+    ensures { λ r. ⌜ r ≡ getD (now (names .entry)) i 0 ⌝ }
+{
     let all = &names[..];
     let k = i as usize;
     if k < all.len() {
@@ -31,7 +45,9 @@ fn name_at(names: &[u16; 64], i: u8) -> u16 {
 }
 
 // The id of a user if a set has its place, or 0.
-fn chosen(us: u64, i: usize, id: u16) -> u16 {
+fn chosen(us: u64, i: usize, id: u16) -> u16
+    ensures { λ r. ⌜ r ≡ (if has us (i % 64) then id else 0) ⌝ }
+{
     if places::masks::has(us, (i % 64) as u8) {
         return id;
     }
@@ -39,24 +55,31 @@ fn chosen(us: u64, i: usize, id: u16) -> u16 {
 }
 
 // The ids of the users at the places of a set.
-fn members(names: &[u16; 64], us: u64) -> [u16; 64] {
+fn members(names: &[u16; 64], us: u64) -> [u16; 64]
+    ensures { λ r. ⌜ r ≡ membersFrom us 0 (now (names .entry)) ⌝ }
+{
+    let all = &names[..];
     let mut ids = [0u16; 64];
     let mut i = 0;
     while i < 64 {
-        ids[i] = chosen(us, i, names[i]);
+        ids[i] = chosen(us, i, all[i]);
         i += 1;
     }
     ids
 }
 
 // A user's id behind a text.
-fn put_user(out: &mut [u8], filled: usize, text: &[u8], names: &[u16; 64], i: u8) -> usize {
+fn put_user(out: &mut [u8], filled: usize, text: &[u8], names: &[u16; 64], i: u8) -> usize
+    ensures { λ r. ⌜ Says (now (out .entry)) filled (now (text .entry) ∷ idTexts (getD (now (names .entry)) i 0)) (now (out .exit)) r ⌝ }
+{
     let a = say(out, filled, text);
     phrasing::message::put_id(out, a, name_at(names, i))
 }
 
 // The state of a token.
-fn put_holding(out: &mut [u8], filled: usize, names: &[u16; 64], h: Holding) -> usize {
+fn put_holding(out: &mut [u8], filled: usize, names: &[u16; 64], h: Holding) -> usize
+    ensures { λ r. ⌜ Says (now (out .entry)) filled (holdingTexts (now (names .entry)) h) (now (out .exit)) r ⌝ }
+{
     match h {
         Holding::Free => say(out, filled, b"free"),
         Holding::Grabbed(g) => put_user(out, filled, b"grabbed by", names, g),
@@ -73,7 +96,9 @@ fn put_holding(out: &mut [u8], filled: usize, names: &[u16; 64], h: Holding) -> 
 }
 
 // A token's line.
-fn put_token(out: &mut [u8], filled: usize, names: &[u16; 64], k: u16, h: Holding) -> usize {
+fn put_token(out: &mut [u8], filled: usize, names: &[u16; 64], k: u16, h: Holding) -> usize
+    ensures { λ r. ⌜ Says (now (out .entry)) filled (tokenTexts (now (names .entry)) k h) (now (out .exit)) r ⌝ }
+{
     let a = say(out, filled, b"  token ");
     let b = say_number(out, a, k as u64);
     let c = say(out, b, b": ");
@@ -90,7 +115,9 @@ fn put_tokens(
     modes: &[u8; 64],
     values: &[u64; 64],
     list: &[u16],
-) -> usize {
+) -> usize
+    ensures { λ r. ⌜ Says (now (out .entry)) filled (over (stateTexts (now (names .entry)) (tokens-of (now (keys .entry)) (now (modes .entry)) (now (values .entry)))) (inOrder (now (list .entry)))) (now (out .exit)) r ⌝ }
+{
     let mut at = filled;
     let mut low: u16 = 0;
     let mut left = list.len();
@@ -181,7 +208,9 @@ pub fn put_table(
     keys: &[u16; 64],
     modes: &[u8; 64],
     values: &[u64; 64],
-) -> usize {
+) -> usize
+    ensures { λ r. ⌜ Says (now (out .entry)) filled (tableTexts (now (names .entry)) (tokens-of (now (keys .entry)) (now (modes .entry)) (now (values .entry)))) (now (out .exit)) r ⌝ }
+{
     let a = say(out, filled, b"tokens in use: ");
     let b = say_number(out, a, places::columns::used(keys) as u64);
     let c = say(out, b, b"\n");

@@ -1,11 +1,11 @@
--- `explaining::tokens::changes` is safe and ends. Assumes nothing.
+-- `holders::changes` is safe and ends. Assumes nothing.
 use Prim.Native.Nat.{_≤_, _-_}
 use borrow.Author.Needs.{needs}
-use Rattle.explaining.proofs.tokens.changes.Statement.{statement}
-use Rattle.explaining.proofs.tokens.changes.Tie as tie
-use Rattle.explaining.proofs.tokens.changes.Reads as reads
-use Rattle.explaining.proofs.tokens.changes.Lts as lts
-use Rattle.explaining.proofs.tokens.took.Reads as took-reads
+use Rattle.holders.proofs.changes.Statement.{statement}
+use Rattle.holders.proofs.changes.Tie as tie
+use Rattle.holders.proofs.changes.Reads as reads
+use Rattle.holders.proofs.changes.Lts as lts
+use Rattle.holders.proofs.took.Reads as took-reads
 
 abbrev Inv-loop : tie.InvT-loop
 Inv-loop keys modes values old-keys₀ old-modes₀ old-values₀ list₀ i₀ old-keys old-modes old-values list i = i ≤ 64
