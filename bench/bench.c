@@ -261,10 +261,10 @@ static void shares(double ns)
     for (size_t i = 0; i < count; i++) {
         int k = events[i].kind != 2 ? 64 + events[i].kind % 3 : events[i].length ? events[i].octets[0] / 4 : 66;
         many[k]++;
-        of_ours[k] += (double)(a[i] - none) * ns;
-        of_plain[k] += (double)(b[i] - none) * ns;
+        of_ours[k] += (double)(a[i] > none ? a[i] - none : 0) * ns;
+        of_plain[k] += (double)(b[i] > none ? b[i] - none : 0) * ns;
     }
-    printf("by message number (64 open or start, 65 loss, 66 no octets): events, ns each, ratio, share of the proved time\n");
+    printf("by message number (64 open or start, 65 loss, 66 no octets): events, proved ns, plain ns, ratio, all the proved ns\n");
     for (int k = 0; k < 67; k++)
         if (many[k] >= 20)
             printf("%4d %5zu %9.1f %9.1f %7.2f %9.0f\n", k, many[k], of_ours[k] / (double)many[k], of_plain[k] / (double)many[k], of_ours[k] / of_plain[k], of_ours[k]);
