@@ -1,4 +1,4 @@
-// Who leaves: the list of their ids, and the mask of their places.
+// Who leaves: the list of their ids.
 ghost use mathlib.Core.Path.{_≡_};
 ghost use mathlib.Core.List.{List, [], _∷_};
 ghost use Prim.Native.Nat.{ℕ, _≤_, _<_};
@@ -103,30 +103,4 @@ pub fn all_on(names: &[u16; 64], homes: &[u8; 64], p: u8, list: &mut [u16; 64]) 
         left -= 1;
     }
     n
-}
-
-// A mask with place i, where its user leaves.
-fn mark(m: u64, i: u8, leaves: bool) -> u64
-    ensures { λ r. ⌜ r ≡ (if leaves then with seats m i else m) ⌝ }
-{
-    if leaves {
-        return places::masks::with_seat(m, i);
-    }
-    m
-}
-
-// The places of the users among ids.
-pub fn places_of(names: &[u16; 64], ids: &[u16]) -> u64
-    ensures { λ r. ⌜ ((homes : List ℕ) → r ≡ placesOf (users-of (now (names .entry)) homes) (now (ids .entry))) ⌝ }
-{
-    let at = &names[..];
-    let free = places::columns::member(ids, 0);
-    let mut m: u64 = 0;
-    let mut i: u8 = 0;
-    while i < 64 {
-        let j = i as usize;
-        m = mark(m, i, places::columns::among(ids, free, at[j]));
-        i += 1;
-    }
-    m
 }

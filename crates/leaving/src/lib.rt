@@ -98,7 +98,7 @@ fn leave(
         live reason (take count (now (list .entry)))) (now (out .entry))) ⌝ }
 {
     let all = &list[..];
-    let gone = leavers::places_of(names, &all[..count]);
+    let gone = tables::users::places_of(names, &all[..count]);
     if !fits(
         out.len(),
         names,

@@ -1,4 +1,4 @@
--- Lists of users: those picked, in their order, and the places of listed users. Assumes nothing.
+-- Lists of users: those picked, in their order. Assumes nothing.
 use mathlib.Core.Path.{_≡_, refl, sym, ap, _∙_}
 use mathlib.Core.Bool.{Bool, true, false, not, _||_, or-true, or-false}
 use mathlib.Core.List.{List, [], _∷_, _++_, append-nil}
@@ -157,51 +157,3 @@ module _ (us : Users) (list spots : List ℕ) (located : Located us list spots) 
 pub chosen-is : (us : Users) (k : Pick) (xs ys zs ids : List ℕ) → xs ≡ sieved us k ys → ys ≡ sieved us New zs → zs ≡ ids → xs ≡ sieved us k (once ids)
 unfolding sieved
 chosen-is us k xs ys zs ids x y z = x ∙ ap (sieved us k) (y ∙ ap once z)
-
--- ---- the places of listed users
--- of the places below i those that pass are in the mask, and no other
-pub record Seats (f : ℕ → Bool) (i m : ℕ) : Type 0 where
-  pub fits : m < 2 ^ 64
-  pub passed : (k : ℕ) → k < i → has m k ≡ f k
-  pub later : (k : ℕ) → i ≤ k → k < 64 → has m k ≡ false
-
-pub seats-none : (f : ℕ → Bool) → Seats f 0 0
-seats-none f = record { fits = omega arith; passed = λ k h. absurd (omega arith); later = λ k h l. has-none k }
-
-with-lt : (m k : ℕ) → with 64 m k < 2 ^ 64
-unfolding with
-with-lt m k = those-lt 64 _
-
-module _ (f : ℕ → Bool) (i m : ℕ) (l : i < 64) (s : Seats f i m) where
-  -- digit k with place i counted by b
-  digit : (k : ℕ) → k < 64 → (b : Bool) → b ≡ f i → (c : Bool) → eqb i k ≡ c → has (if b then with 64 m i else m) k ≡ (if c then f i else has m k)
-  digit k h true q true e = has-with 64 i k h m ∙ rw (e, ← q) (or-true (has m k))
-  digit k h true q false e = has-with 64 i k h m ∙ rw e (or-false (has m k))
-  digit k h false q true e = s .later k (omega (arith, eqb-true i k e)) h ∙ q
-  digit k h false q false e = refl
-
-  fit : (b : Bool) → (if b then with 64 m i else m) < 2 ^ 64
-  fit true = with-lt m i
-  fit false = s .fits
-
-  module _ (b : Bool) (x : b ≡ f i) where
-    passes : (k : ℕ) → k < i + 1 → (c : Bool) → eqb i k ≡ c → has (if b then with 64 m i else m) k ≡ f k
-    passes k h true e = digit k (omega arith) b x true e ∙ ap f (eqb-true i k e)
-    passes k h false e = digit k (omega arith) b x false e ∙ s .passed k (omega (arith, eqb-false i k e))
-
-    waits : (k : ℕ) → i + 1 ≤ k → k < 64 → has (if b then with 64 m i else m) k ≡ false
-    waits k h u = digit k u b x false (ne-eqb i k (λ e. omega arith)) ∙ s .later k (omega arith) u
-
-    pub seats-turn : (n : ℕ) → n ≡ (if b then with 64 m i else m) → Seats f (i + 1) n
-    seats-turn n e = rw e (record { fits = fit b; passed = λ k h. passes k h (eqb i k) refl; later = waits })
-
-pub seats-all : (f : ℕ → Bool) (i m : ℕ) → 64 ≤ i → Seats f i m → m ≡ those 64 f
-seats-all f i m h s = is-those 64 m f (s .fits) (λ k l. s .passed k (omega arith))
-
--- who is listed, by place
-abbrev pub sits : (names list : List ℕ) (i : ℕ) → Bool
-sits names list i = member (getD names i 0) list
-
-pub seats-are : (names homes list : List ℕ) (m : ℕ) → m ≡ those 64 (sits names list) → m ≡ places (users-of names homes) list
-unfolding places name
-seats-are names homes list m e = e

@@ -217,32 +217,6 @@ fn chosen(
     sieve(names, homes, k, &first[..m], kept)
 }
 
-// A mask with one more place, where it counts.
-fn seat_one(m: u64, counts: bool, i: u8) -> u64
-    ensures { λ r. ⌜ r ≡ (if counts then with seats m i else m) ⌝ }
-{
-    if counts {
-        return places::masks::with_seat(m, i);
-    }
-    m
-}
-
-// The places of listed users.
-fn seats_of(names: &[u16; 64], list: &[u16]) -> u64
-    ensures { λ r. ⌜ ((homes : List ℕ) → r ≡ placesOf (users-of (now (names .entry)) homes) (now (list .entry))) ⌝ }
-{
-    let ids = &names[..];
-    let free = places::columns::member(list, 0);
-    let mut m: u64 = 0;
-    let mut i: u8 = 0;
-    while i < 64 {
-        let j = i as usize;
-        m = seat_one(m, places::columns::among(list, free, ids[j]), i);
-        i += 1;
-    }
-    m
-}
-
 // What a list's users are told: CAin of user and channel, CEin of a channel.
 enum Say {
     Admits(u16, u16),
@@ -393,7 +367,7 @@ pub fn admit(
         return a;
     }
     let ch = tables::channels::channel_at(roles, chairs, guests, marks, j);
-    let come = seats_of(names, &kept[..n]);
+    let come = tables::users::places_of(names, &kept[..n]);
     let now = Channel {
         role: ch.role,
         chair: ch.chair,
@@ -447,7 +421,7 @@ pub fn expel(
     if answers::refused(a) {
         return a;
     }
-    let stay = places::masks::other_seats(ch.guests, seats_of(names, &kept[..n]));
+    let stay = places::masks::other_seats(ch.guests, tables::users::places_of(names, &kept[..n]));
     let mask = homes_of(names, homes, ch.chair, stay);
     let now = Channel {
         role: ch.role,

@@ -1,3 +1,4 @@
 pub mod PlaceLaws
 pub mod UserLaws
 pub mod TokenLaws
+pub mod Marking

@@ -52,11 +52,11 @@ channel-at-requires c κs = tt
 array-share-prefix-kept-2 : tie.Need-array-share-prefix-kept-2
 array-share-prefix-kept-2 c = search needs
 
-slice-aggregate-seats-of : tie.Need-slice-aggregate-seats-of
-slice-aggregate-seats-of c = take-count _ _ _ refl (rw (c .before .before .before .before .before .before .before .before .before .before .before .before .before .before .before .chosen .kept .1 .1 .1 .1 .1 .0) (c .before .before .before .before .before .before .before .before .before .before .before .before .before .before .before .chosen .ensures .1))
+slice-aggregate-places-of : tie.Need-slice-aggregate-places-of
+slice-aggregate-places-of c = take-count _ _ _ refl (rw (c .before .before .before .before .before .before .before .before .before .before .before .before .before .before .before .chosen .kept .1 .1 .1 .1 .1 .0) (c .before .before .before .before .before .before .before .before .before .before .before .before .before .before .before .chosen .ensures .1))
 
-seats-of-requires : tie.Need-seats-of-requires
-seats-of-requires c κs = tt
+places-of-requires : tie.Need-places-of-requires
+places-of-requires c κs = tt
 
 all-seats-requires : tie.Need-all-seats-requires
 all-seats-requires c κs = tt
@@ -70,7 +70,7 @@ same-length-2 c = search needs
 returns-4 : tie.Need-returns-4
 unfolding set-channel
 returns-4 c = admit-done _ _ _ _ _ _ _ _ (c .before .before .before .before .before .before .before .before .before .before .before .before .before .before .before .before .before .before .before .before .before .before .before .before .before .managed .ensures .0 (c .before .before .before .before .before .before .before .before .before .before .before .before .before .before .before .before .before .before .before .before .before .before .before .before .if1 .left)) _ (c .before .before .before .before .before .before .before .before .before .before .before .before .before .before .before .before .before .before .before .before .before .before .chosen .ensures .0) (some-taken (c .before .before .before .before .before .before .before .before .before .before .before .before .before .before .before .before .before .before .before .before .before .before .chosen .last .1 .1 .1 .1 .1 .0) (c .before .before .before .before .before .before .before .before .before .before .before .before .before .before .before .before .before .before .before .before .before .before .chosen .result) (c .before .before .before .before .before .before .before .before .before .before .before .before .before .before .before .before .before .before .before .before .if2 .left) (rw (c .before .before .before .before .before .before .before .before .before .before .before .before .before .before .before .before .before .before .before .before .before .before .chosen .kept .1 .1 .1 .1 .1 .0) (c .before .before .before .before .before .before .before .before .before .before .before .before .before .before .before .before .before .before .before .before .before .before .chosen .ensures .1))) _ _ _ (c .before .before .before .before .before .before .before .before .before .before .before .before .before .before .before .before .before .tell-own .ensures) (sym (c .before .before .before .before .before .before .before .before .before .before .before .before .before .before .refused .ensures) ∙ c .before .before .before .before .before .before .before .before .before .before .before .before .before .if3 .left)
-    _ (c .before .before .before .before .before .before .before .before .channel-at .ensures) _ _ (c .before .before .before .before .before .before .seats-of .ensures _) (c .before .before .before .before .before .all-seats .ensures) _ (λ i. record { ids = c .before .before .before .before .before .before .before .before .before .before .before .before .before .before .before .before .before .before .before .before .before .before .before .before .before .before .before .before .before .before .before .args .ids .now; cells = c .set-channel .ensures i })
+    _ (c .before .before .before .before .before .before .before .before .channel-at .ensures) _ _ (c .before .before .before .before .before .before .places-of .ensures _) (c .before .before .before .before .before .all-seats .ensures) _ (λ i. record { ids = c .before .before .before .before .before .before .before .before .before .before .before .before .before .before .before .before .before .before .before .before .before .before .before .before .before .before .before .before .before .before .before .args .ids .now; cells = c .set-channel .ensures i })
 
 pub admit-spec : {M : Type 1} → statement M
 admit-spec =
@@ -91,8 +91,8 @@ admit-spec =
     returns-3
     channel-at-requires
     array-share-prefix-kept-2
-    slice-aggregate-seats-of
-    seats-of-requires
+    slice-aggregate-places-of
+    places-of-requires
     all-seats-requires
     set-channel-requires
     same-length-2

@@ -3,12 +3,12 @@ use mathlib.Core.Path.{_≡_, _∙_}
 use lib.ListN.{length, getD}
 use Rattle.places.proofs.Turns.{among-is}
 use borrow.Author.Needs.{needs}
-use Rattle.leaving.proofs.LeaverLaws.{Marking, marking-start, marking-turn, leaves, places-marked}
-use Rattle.leaving.proofs.leavers.places_of.Statement.{statement}
-use Rattle.leaving.proofs.leavers.places_of.Tie as tie
+use Rattle.tables.proofs.Marking.{Marking, marking-start, marking-turn, listed, places-marked}
+use Rattle.tables.proofs.users.places_of.Statement.{statement}
+use Rattle.tables.proofs.users.places_of.Tie as tie
 
 abbrev Inv-loop : tie.InvT-loop
-Inv-loop names ids at free m₀ i₀ m i = (i ≤ 64) × (length names ≡ 64) × Marking (leaves names ids) m i
+Inv-loop names ids at free m₀ i₀ m i = (i ≤ 64) × (length names ≡ 64) × Marking (listed names ids) m i
 
 abbrev μ-loop : tie.MeasureT-loop
 μ-loop names ids at free m₀ i₀ m i = 64 - i
@@ -17,7 +17,7 @@ member-requires : tie.Need-member-requires Inv-loop μ-loop
 member-requires c κs = search needs
 
 loop-holds : tie.Need-loop-holds Inv-loop μ-loop
-loop-holds c = let a = c .before .before .before .args in (search needs, search needs, marking-start (leaves (a .names .now) (a .ids .now)))
+loop-holds c = let a = c .before .before .before .args in (search needs, search needs, marking-start (listed (a .names .now) (a .ids .now)))
 
 cast-j : tie.Need-cast-j Inv-loop μ-loop
 cast-j c = search needs
@@ -45,7 +45,7 @@ loop-again c = let b = c .before .before .before .before .loop in
     let a = c .before .before .before .before .before .before .before .before .args in
     let free = c .before .before .before .before .before .member in
     let seen = c .before .among .ensures ∙ among-is (getD (a .names .now) (b .i) 0) (a .ids .now) (free .result) (free .ensures) in
-    (search needs, b .inv .1, rw (c .mark .ensures, seen) (marking-turn (leaves (a .names .now) (a .ids .now)) (b .m) (b .i) (b .inv .2)))
+    (search needs, b .inv .1, rw (c .mark .ensures, seen) (marking-turn (listed (a .names .now) (a .ids .now)) (b .m) (b .i) (b .inv .2)))
 
 returns : tie.Need-returns Inv-loop μ-loop
 returns c = let b = c .before .loop in places-marked _ _ _ _ (b .inv .2) (search needs)

@@ -1,6 +1,6 @@
 use borrow.Author.Needs.{needs}
-use Rattle.leaving.proofs.leavers.mark.Statement.{statement}
-use Rattle.leaving.proofs.leavers.mark.Tie as tie
+use Rattle.tables.proofs.users.mark.Statement.{statement}
+use Rattle.tables.proofs.users.mark.Tie as tie
 
 with-seat-requires : tie.Need-with-seat-requires
 with-seat-requires c κs = search needs
