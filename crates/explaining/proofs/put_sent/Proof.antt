@@ -5,27 +5,19 @@ use Prim.Native.Nat.{_%_}
 use borrow.Author.Needs.{needs}
 use Rattle.explaining.proofs.put_sent.Statement.{statement}
 use Rattle.explaining.proofs.put_sent.Tie as tie
-use Rattle.explaining.proofs.put_sent.Reads as reads
-use Rattle.explaining.proofs.put_sent.Lts as lts
-use Rattle.explaining.proofs.sent.put_records.Reads as put-records-reads
 
--- src/lib.rt:162:9
 returns : tie.Need-returns
 returns c = search needs
 
--- src/lib.rt:164:36
 slice-aggregate-put-records : tie.Need-slice-aggregate-put-records
 slice-aggregate-put-records c = sym (length-take-le (c .before .before .before .before .before .args .sent % 65536) (c .before .before .before .before .before .args .room .now) (c .before .before .if1 .left))
 
--- src/lib.rt:164:5
 put-records-requires : tie.Need-put-records-requires
 put-records-requires c κs = search needs
 
--- src/lib.rt:159:1
 same-length : tie.Need-same-length
 same-length c = search needs
 
--- src/lib.rt:159:1
 returns-2 : tie.Need-returns-2
 returns-2 c = search needs
 

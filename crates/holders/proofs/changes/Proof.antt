@@ -3,9 +3,6 @@ use Prim.Native.Nat.{_≤_, _-_}
 use borrow.Author.Needs.{needs}
 use Rattle.holders.proofs.changes.Statement.{statement}
 use Rattle.holders.proofs.changes.Tie as tie
-use Rattle.holders.proofs.changes.Reads as reads
-use Rattle.holders.proofs.changes.Lts as lts
-use Rattle.holders.proofs.took.Reads as took-reads
 
 abbrev Inv-loop : tie.InvT-loop
 Inv-loop keys modes values old-keys₀ old-modes₀ old-values₀ list₀ i₀ old-keys old-modes old-values list i = i ≤ 64
@@ -13,63 +10,48 @@ Inv-loop keys modes values old-keys₀ old-modes₀ old-values₀ list₀ i₀ o
 abbrev μ-loop : tie.MeasureT-loop
 μ-loop keys modes values old-keys₀ old-modes₀ old-values₀ list₀ i₀ old-keys old-modes old-values list i = 64 - i
 
--- src/tokens.rt:149:5
 loop-holds : tie.Need-loop-holds Inv-loop μ-loop
 loop-holds c = search needs
 
--- src/tokens.rt:150:19
 mul-was : tie.Need-mul-was Inv-loop μ-loop
 mul-was c = search needs
 
--- src/tokens.rt:150:19
 element-copy-out-was : tie.Need-element-copy-out-was Inv-loop μ-loop
 element-copy-out-was c = search needs
 
--- src/tokens.rt:151:12
 took-requires : tie.Need-took-requires Inv-loop μ-loop
 took-requires c κs = search needs
 
--- src/tokens.rt:152:13
 mul-list : tie.Need-mul-list Inv-loop μ-loop
 mul-list c = search needs
 
--- src/tokens.rt:152:13
 array-write-list : tie.Need-array-write-list Inv-loop μ-loop
 array-write-list c = search needs
 
--- src/tokens.rt:153:28
 mul-list-2 : tie.Need-mul-list-2 Inv-loop μ-loop
 mul-list-2 c = search needs
 
--- src/tokens.rt:153:28
 element-copy-out-list : tie.Need-element-copy-out-list Inv-loop μ-loop
 element-copy-out-list c = search needs
 
--- src/tokens.rt:153:18
 add-list : tie.Need-add-list Inv-loop μ-loop
 add-list c = search needs
 
--- src/tokens.rt:153:13
 mul-list-3 : tie.Need-mul-list-3 Inv-loop μ-loop
 mul-list-3 c = search needs
 
--- src/tokens.rt:153:13
 array-write-list-2 : tie.Need-array-write-list-2 Inv-loop μ-loop
 array-write-list-2 c = search needs
 
--- src/tokens.rt:155:9
 add-i : tie.Need-add-i Inv-loop μ-loop
 add-i c = search needs
 
--- src/tokens.rt:149:5
 loop-less : tie.Need-loop-less Inv-loop μ-loop
 loop-less c = search needs
 
--- src/tokens.rt:149:5
 loop-again : tie.Need-loop-again Inv-loop μ-loop
 loop-again c = search needs
 
--- src/tokens.rt:139:1
 returns : tie.Need-returns Inv-loop μ-loop
 returns c = search needs
 

@@ -4,22 +4,16 @@ use mathlib.Core.Path.{sym}
 use borrow.Author.Needs.{needs}
 use Rattle.holders.proofs.name_at.Statement.{statement}
 use Rattle.holders.proofs.name_at.Tie as tie
-use Rattle.holders.proofs.name_at.Reads as reads
-use Rattle.holders.proofs.name_at.Lts as lts
 
--- src/lib.rt:42:16
 mul-result : tie.Need-mul-result
 mul-result c = search needs
 
--- src/lib.rt:42:16
 shared-slice-read-result : tie.Need-shared-slice-read-result
 shared-slice-read-result c = search needs
 
--- src/lib.rt:42:9
 returns : tie.Need-returns
 returns c = search needs
 
--- src/lib.rt:36:1
 returns-2 : tie.Need-returns-2
 returns-2 c = sym (List·getD-eq-default (c .before .before .args .names .now) 0 (search needs))
 

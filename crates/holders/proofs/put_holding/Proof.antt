@@ -10,134 +10,98 @@ use mathlib.Core.Path.{ap}
 use borrow.Author.Needs.{needs}
 use Rattle.holders.proofs.put_holding.Statement.{statement}
 use Rattle.holders.proofs.put_holding.Tie as tie
-use Rattle.holders.proofs.put_holding.Reads as reads
-use Rattle.holders.proofs.put_holding.Lts as lts
-use Rattle.holders.proofs.members.Reads as members-reads
-use Rattle.holders.proofs.put_rising.Reads as put-rising-reads
-use Rattle.holders.proofs.put_user.Reads as put-user-reads
-use Rattle.streams.proofs.lines.say.Reads as say-reads
 
--- src/lib.rt:84:30
 enum-told : tie.Need-enum-told
 enum-told c = search needs
 
--- src/lib.rt:84:43
 slice-aggregate-say : tie.Need-slice-aggregate-say
 slice-aggregate-say c = search needs
 
--- src/lib.rt:84:26
 say-requires : tie.Need-say-requires
 say-requires c κs = search needs
 
--- src/lib.rt:85:26
 enum-known-h : tie.Need-enum-known-h
 enum-known-h c = search needs
 
--- src/lib.rt:85:54
 slice-aggregate-put-user : tie.Need-slice-aggregate-put-user
 slice-aggregate-put-user c = search needs
 
--- src/lib.rt:85:32
 put-user-requires : tie.Need-put-user-requires
 put-user-requires c κs = search needs
 
--- src/lib.rt:86:28
 enum-known-h-2 : tie.Need-enum-known-h-2
 enum-known-h-2 c = search needs
 
--- src/lib.rt:87:38
 slice-aggregate-say-2 : tie.Need-slice-aggregate-say-2
 slice-aggregate-say-2 c = search needs
 
--- src/lib.rt:87:17
 say-requires-2 : tie.Need-say-requires-2
 say-requires-2 c κs = search needs
 
--- src/lib.rt:88:33
 members-requires : tie.Need-members-requires
 members-requires c κs = search needs
 
--- src/lib.rt:88:32
 slice-aggregate-put-rising : tie.Need-slice-aggregate-put-rising
 slice-aggregate-put-rising c = search needs
 
--- src/lib.rt:88:13
 put-rising-requires : tie.Need-put-rising-requires
 put-rising-requires c κs = search needs
 
--- src/lib.rt:90:25
 enum-known-h-3 : tie.Need-enum-known-h-3
 enum-known-h-3 c = search needs
 
--- src/lib.rt:91:43
 slice-aggregate-put-user-2 : tie.Need-slice-aggregate-put-user-2
 slice-aggregate-put-user-2 c = search needs
 
--- src/lib.rt:91:17
 put-user-requires-2 : tie.Need-put-user-requires-2
 put-user-requires-2 c κs = search needs
 
--- src/lib.rt:92:30
 slice-aggregate-put-user-3 : tie.Need-slice-aggregate-put-user-3
 slice-aggregate-put-user-3 c = search needs
 
--- src/lib.rt:92:13
 put-user-requires-3 : tie.Need-put-user-requires-3
 put-user-requires-3 c κs = search needs
 
--- src/lib.rt:94:24
 enum-known-h-4 : tie.Need-enum-known-h-4
 enum-known-h-4 c = search needs
 
--- src/lib.rt:94:52
 slice-aggregate-put-user-4 : tie.Need-slice-aggregate-put-user-4
 slice-aggregate-put-user-4 c = search needs
 
--- src/lib.rt:94:30
 put-user-requires-4 : tie.Need-put-user-requires-4
 put-user-requires-4 c κs = search needs
 
--- src/lib.rt:80:1
 same-length : tie.Need-same-length
 same-length c = search needs
 
--- src/lib.rt:80:1
 returns : tie.Need-returns
 unfolding ascii holdingTexts
 returns c = says-as (c .before .before .say .ensures) (holding-is (c .before .before .before .before .before .before .before .before .args .names .now) (c .before .before .before .before .before .before .before .before .args .h) Free (search needs))
 
--- src/lib.rt:80:1
 same-length-2 : tie.Need-same-length-2
 same-length-2 c = search needs
 
--- src/lib.rt:80:1
 returns-2 : tie.Need-returns-2
 unfolding ascii holdingTexts
 returns-2 c = says-as (c .before .before .put-user .ensures) (holding-is (c .before .before .before .before .before .before .before .before .before .args .names .now) (c .before .before .before .before .before .before .before .before .before .args .h) _ (c .before .before .before .before .before .before .h .given .1))
 
--- src/lib.rt:80:1
 same-length-3 : tie.Need-same-length-3
 same-length-3 c = search needs
 
--- src/lib.rt:80:1
 returns-3 : tie.Need-returns-3
 unfolding ascii holdingTexts
 returns-3 c = says-as (says-then (c .before .before .before .before .before .before .before .before .say2 .ensures) (says-as (c .before .before .put-rising .ensures) (ap (λ l. over idTexts (inOrder l)) (c .before .before .before .before .members .ensures)))) (holding-is (c .before .before .before .before .before .before .before .before .before .before .before .before .before .before .before .args .names .now) (c .before .before .before .before .before .before .before .before .before .before .before .before .before .before .before .args .h) _ (c .before .before .before .before .before .before .before .before .before .before .before .before .h2 .given .1))
 
--- src/lib.rt:80:1
 same-length-4 : tie.Need-same-length-4
 same-length-4 c = search needs
 
--- src/lib.rt:80:1
 returns-4 : tie.Need-returns-4
 unfolding ascii holdingTexts
 returns-4 c = says-as (says-then (c .before .before .before .before .before .before .before .put-user2 .ensures) (c .before .before .put-user3 .ensures)) (holding-is (c .before .before .before .before .before .before .before .before .before .before .before .before .before .before .args .names .now) (c .before .before .before .before .before .before .before .before .before .before .before .before .before .before .args .h) _ (c .before .before .before .before .before .before .before .before .before .before .before .h3 .given .1))
 
--- src/lib.rt:80:1
 same-length-5 : tie.Need-same-length-5
 same-length-5 c = search needs
 
--- src/lib.rt:80:1
 returns-5 : tie.Need-returns-5
 unfolding ascii holdingTexts
 returns-5 c = says-as (c .before .before .put-user4 .ensures) (holding-is (c .before .before .before .before .before .before .before .before .before .args .names .now) (c .before .before .before .before .before .before .before .before .before .args .h) _ (c .before .before .before .before .before .before .h4 .given .1))

@@ -9,11 +9,6 @@ use lib.ListN.{length}
 use borrow.Author.Needs.{needs}
 use Rattle.holders.proofs.put_tokens.Statement.{statement}
 use Rattle.holders.proofs.put_tokens.Tie as tie
-use Rattle.holders.proofs.put_tokens.Reads as reads
-use Rattle.holders.proofs.put_tokens.Lts as lts
-use Rattle.holders.proofs.put_token.Reads as put-token-reads
-use Rattle.places.proofs.columns.next.Reads as next-reads
-use Rattle.tables.proofs.tokens.state.Reads as state-reads
 
 abbrev Inv-loop : tie.InvT-loop
 Inv-loop out₀ filled names keys modes values list at₀ low₀ left₀ out at low left = Rising (stateTexts names (tokens-of keys modes values)) list out₀ filled out at low left
@@ -21,48 +16,37 @@ Inv-loop out₀ filled names keys modes values list at₀ low₀ left₀ out at 
 abbrev μ-loop : tie.MeasureT-loop
 μ-loop out₀ filled names keys modes values list at₀ low₀ left₀ out at low left = left
 
--- src/tokens.rt:97:5
 loop-holds : tie.Need-loop-holds Inv-loop μ-loop
 loop-holds c = rising-start
 
--- src/tokens.rt:98:13
 next-requires : tie.Need-next-requires Inv-loop μ-loop
 next-requires c κs = search needs
 
--- src/tokens.rt:100:13
 same-length : tie.Need-same-length Inv-loop μ-loop
 same-length c = c .before .before .before .loop .inv .size
 
--- src/tokens.rt:100:13
 returns : tie.Need-returns Inv-loop μ-loop
 returns c = rising-done (c .before .next .result) (c .before .before .before .loop .inv) (c .before .next .ensures) (c .if1 .taken)
 
--- src/tokens.rt:107:13
 state-requires : tie.Need-state-requires Inv-loop μ-loop
 state-requires c κs = search needs
 
--- src/tokens.rt:102:9
 put-token-requires : tie.Need-put-token-requires Inv-loop μ-loop
 put-token-requires c κs = search needs
 
--- src/tokens.rt:110:9
 sub-left : tie.Need-sub-left Inv-loop μ-loop
 sub-left c = search needs
 
--- src/tokens.rt:97:5
 loop-less : tie.Need-loop-less Inv-loop μ-loop
 loop-less c = search needs
 
--- src/tokens.rt:97:5
 loop-again : tie.Need-loop-again Inv-loop μ-loop
 unfolding stateTexts
 loop-again c = rising-more (c .before .before .before .before .before .before .next .result) (c .before .before .before .before .before .before .before .before .loop .inv) (c .before .before .before .before .before .before .next .ensures) (c .before .before .before .before .before .if1 .left) (c .before .before .before .before .before .before .before .loop-test .taken) (c .before .before .put-token .kept .0) (says-as (c .before .before .put-token .ensures) (ap (λ h. tokenTexts (c .before .before .before .before .before .before .before .before .before .before .before .args .names .now) (c .before .before .before .before .before .before .next .result) h) (c .before .before .before .state .ensures)))
 
--- src/tokens.rt:85:1
 same-length-2 : tie.Need-same-length-2 Inv-loop μ-loop
 same-length-2 c = c .before .loop .inv .size
 
--- src/tokens.rt:85:1
 returns-2 : tie.Need-returns-2 Inv-loop μ-loop
 returns-2 c = rising-over (c .before .loop .inv) (c .loop-test .left)
 

@@ -3,12 +3,6 @@ use native.Mathlib.Omega.{arith}
 use borrow.Author.Needs.{needs}
 use Rattle.measured.proofs.pass_many.Statement.{statement}
 use Rattle.measured.proofs.pass_many.Tie as tie
-use Rattle.measured.proofs.pass_many.Reads as reads
-use Rattle.measured.proofs.pass_many.Lts as lts
-use Rattle.measured.proofs.send.Reads as send-reads
-use Rattle.provider.proofs.starting.open.Reads as open-reads
-use Rattle.provider.proofs.starting.start.Reads as start-reads
-use Rattle.std.proofs.num.wrapping_add_u32.Reads as wrapping-add-u32-reads
 
 abbrev Inv-loop : tie.InvT-loop
 Inv-loop grab release rounds room₀ links₀ names₀ homes₀ ids₀ roles₀ chairs₀ guests₀ marks₀ keys₀ modes₀ values₀ limits sum₀ left₀ room links names homes ids roles chairs guests marks keys modes values sum left = Unit {0}
@@ -16,55 +10,42 @@ Inv-loop grab release rounds room₀ links₀ names₀ homes₀ ids₀ roles₀ 
 abbrev μ-loop : tie.MeasureT-loop
 μ-loop grab release rounds room₀ links₀ names₀ homes₀ ids₀ roles₀ chairs₀ guests₀ marks₀ keys₀ modes₀ values₀ limits sum₀ left₀ room links names homes ids roles chairs guests marks keys modes values sum left = left
 
--- src/lib.rt:53:9
 start-requires : tie.Need-start-requires Inv-loop μ-loop
 start-requires c κs = search needs
 
--- src/lib.rt:57:5
 open-requires : tie.Need-open-requires Inv-loop μ-loop
 open-requires c κs = search needs
 
--- src/lib.rt:58:164
 slice-aggregate-send : tie.Need-slice-aggregate-send Inv-loop μ-loop
 slice-aggregate-send c = search needs
 
--- src/lib.rt:58:9
 send-requires : tie.Need-send-requires Inv-loop μ-loop
 send-requires c κs = search needs
 
--- src/lib.rt:60:5
 loop-holds : tie.Need-loop-holds Inv-loop μ-loop
 loop-holds c = search needs
 
--- src/lib.rt:61:9
 sub-left : tie.Need-sub-left Inv-loop μ-loop
 sub-left c = search needs
 
--- src/lib.rt:62:13
 send-requires-2 : tie.Need-send-requires-2 Inv-loop μ-loop
 send-requires-2 c κs = search needs
 
--- src/lib.rt:63:13
 send-requires-3 : tie.Need-send-requires-3 Inv-loop μ-loop
 send-requires-3 c κs = search needs
 
--- src/lib.rt:64:47
 wrapping-add-u32-requires : tie.Need-wrapping-add-u32-requires Inv-loop μ-loop
 wrapping-add-u32-requires c κs = search needs
 
--- src/lib.rt:64:9
 wrapping-add-u32-requires-2 : tie.Need-wrapping-add-u32-requires-2 Inv-loop μ-loop
 wrapping-add-u32-requires-2 c κs = search needs
 
--- src/lib.rt:60:5
 loop-less : tie.Need-loop-less Inv-loop μ-loop
 loop-less c = omega (arith, c .before .before .before .before .before .before .before .before .before .before .before .before .before .before .before .before .before .before .before .before .before .before .before .before .before .before .before .before .loop-test .taken)
 
--- src/lib.rt:60:5
 loop-again : tie.Need-loop-again Inv-loop μ-loop
 loop-again c = search needs
 
--- src/lib.rt:39:1
 returns : tie.Need-returns Inv-loop μ-loop
 returns c = search needs
 

@@ -3,28 +3,19 @@ use Rattle.provider.proofs.Turning.{not-true, not-false, shut-loses, op
 use borrow.Author.Needs.{needs}
 use Rattle.provider.proofs.lose.Statement.{statement}
 use Rattle.provider.proofs.lose.Tie as tie
-use Rattle.provider.proofs.lose.Reads as reads
-use Rattle.provider.proofs.lose.Lts as lts
-use Rattle.leaving.proofs.close.Reads as close-reads
-use Rattle.provider.proofs.answers.is_open.Reads as is-open-reads
 
--- src/lib.rt:40:9
 is-open-requires : tie.Need-is-open-requires
 is-open-requires c κs = search needs
 
--- src/lib.rt:41:9
 returns : tie.Need-returns
 returns c = λ l. shut-loses _ (c .before .before .before .before .args .p) _ _ (c .before .is-open .ensures) (not-true _ (c .if1 .taken))
 
--- src/lib.rt:46:5
 close-requires : tie.Need-close-requires
 close-requires c κs = search needs
 
--- src/lib.rt:19:1
 same-length : tie.Need-same-length
 same-length c = search needs
 
--- src/lib.rt:19:1
 returns-2 : tie.Need-returns-2
 returns-2 c = λ l. c .before .before .close .ensures l ∙ open-loses _ (c .before .before .before .before .before .before .before .before .before .before .before .before .before .before .before .before .before .before .before .args .p) _ _ (c .before .before .before .before .before .before .before .before .before .before .before .before .before .before .before .before .is-open .ensures) (not-false _ (c .before .before .before .before .before .before .before .before .before .before .before .before .before .before .before .if1 .left))
 

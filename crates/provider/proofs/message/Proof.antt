@@ -6,54 +6,37 @@ use Rattle.provider.proofs.Understanding.{refused-asks, requested-asks}
 use borrow.Author.Needs.{needs}
 use Rattle.provider.proofs.message.Statement.{statement}
 use Rattle.provider.proofs.message.Tie as tie
-use Rattle.provider.proofs.message.Reads as reads
-use Rattle.provider.proofs.message.Lts as lts
-use Rattle.domain.proofs.numbers.reply_number.Reads as reply-number-reads
-use Rattle.provider.proofs.answers.is_open.Reads as is-open-reads
-use Rattle.provider.proofs.answers.refuse.Reads as refuse-reads
-use Rattle.provider.proofs.reading.understand.Reads as understand-reads
-use Rattle.requests.proofs.request.Reads as request-reads
 
--- src/lib.rt:76:9
 is-open-requires : tie.Need-is-open-requires
 is-open-requires c κs = search needs
 
--- src/lib.rt:77:9
 returns : tie.Need-returns
 returns c = shut-hears _ (c .before .before .before .before .before .args .p) _ _ (c .before .is-open .ensures) (not-true _ (c .if1 .taken)) (understood (c .before .before .before .before .before .args .octets .now))
 
--- src/lib.rt:82:9
 understand-requires : tie.Need-understand-requires
 understand-requires c κs = search needs
 
--- src/lib.rt:84:8
 reply-number-requires : tie.Need-reply-number-requires
 reply-number-requires c κs = search needs
 
--- src/lib.rt:85:9
 refuse-requires : tie.Need-refuse-requires
 refuse-requires c κs = search needs
 
--- src/lib.rt:85:9
 same-length : tie.Need-same-length
 same-length c = search needs
 
--- src/lib.rt:85:9
 returns-2 : tie.Need-returns-2
 returns-2 c = let a = c .before .before .before .before .before .before .before .before .before .before .before .before .args in
     c .before .before .refuse .ensures _
     ∙ open-refused _ (a .p) _ _ (c .before .before .before .before .before .before .before .before .is-open .ensures) (not-false _ (c .before .before .before .before .before .before .before .if1 .left)) (understood (a .octets .now)) _ _
     (c .before .before .before .before .before .before .understand .ensures _ _ _ _ ∙ refused-asks _ _ _ _ (a .octets .now) (c .before .before .before .before .before .before .understand .result) (λ e. c .before .before .before .before .if2 .taken (c .before .before .before .before .before .reply-number .ensures ∙ e)))
 
--- src/lib.rt:88:5
 request-requires : tie.Need-request-requires
 request-requires c κs = search needs
 
--- src/lib.rt:53:1
 same-length-2 : tie.Need-same-length-2
 same-length-2 c = search needs
 
--- src/lib.rt:53:1
 returns-3 : tie.Need-returns-3
 unfolding requested
 returns-3 c = let a = c .before .before .before .before .before .before .before .before .before .before .before .before .before .before .before .before .before .before .before .before .before .before .before .before .before .args in

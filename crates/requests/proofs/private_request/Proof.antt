@@ -7,61 +7,43 @@ use Rattle.requests.proofs.Requesting.{on-channels}
 use borrow.Author.Needs.{needs}
 use Rattle.requests.proofs.private_request.Statement.{statement}
 use Rattle.requests.proofs.private_request.Tie as tie
-use Rattle.requests.proofs.private_request.Reads as reads
-use Rattle.requests.proofs.private_request.Lts as lts
-use Rattle.private.proofs.admit.Reads as admit-reads
-use Rattle.private.proofs.convene.Reads as convene-reads
-use Rattle.private.proofs.disband.Reads as disband-reads
-use Rattle.private.proofs.expel.Reads as expel-reads
 
--- src/lib.rt:121:13
 convene-requires : tie.Need-convene-requires
 convene-requires c κs = search needs
 
--- src/lib.rt:135:15
 disband-requires : tie.Need-disband-requires
 disband-requires c κs = search needs
 
--- src/lib.rt:148:15
 admit-requires : tie.Need-admit-requires
 admit-requires c κs = search needs
 
--- src/lib.rt:163:14
 expel-requires : tie.Need-expel-requires
 expel-requires c κs = search needs
 
--- src/lib.rt:94:1
 same-length : tie.Need-same-length
 same-length c = search needs
 
--- src/lib.rt:94:1
 returns : tie.Need-returns
 unfolding private-request act channels-full
 returns c = λ m ts. let a = c .before .before .before .before .before .before .before .before .before .before .before .args in on-channels (a .limits) m _ _ ts _ (a .p) (private-request (a .number) (a .first) (a .second) (take (a .count) (a .listed .now))) _ _ (c .before .before .convene .ensures) (rw (c .before .before .before .before .before .before .before .before .before .match .keys1) refl)
 
--- src/lib.rt:94:1
 same-length-2 : tie.Need-same-length-2
 same-length-2 c = search needs
 
--- src/lib.rt:94:1
 returns-2 : tie.Need-returns-2
 unfolding private-request act
 returns-2 c = λ m ts. let a = c .before .before .before .before .before .before .before .before .before .before .before .args in on-channels (a .limits) m _ _ ts _ (a .p) (private-request (a .number) (a .first) (a .second) (take (a .count) (a .listed .now))) _ _ (c .before .before .disband .ensures) (rw (c .before .before .before .before .before .before .before .before .before .match .keys2) refl)
 
--- src/lib.rt:94:1
 same-length-3 : tie.Need-same-length-3
 same-length-3 c = search needs
 
--- src/lib.rt:94:1
 returns-3 : tie.Need-returns-3
 unfolding private-request act
 returns-3 c = λ m ts. let a = c .before .before .before .before .before .before .before .before .before .before .before .args in on-channels (a .limits) m _ _ ts _ (a .p) (private-request (a .number) (a .first) (a .second) (take (a .count) (a .listed .now))) _ _ (c .before .before .admit .ensures) (rw (c .before .before .before .before .before .before .before .before .before .match .keys3) refl)
 
--- src/lib.rt:94:1
 same-length-4 : tie.Need-same-length-4
 same-length-4 c = search needs
 
--- src/lib.rt:94:1
 returns-4 : tie.Need-returns-4
 unfolding private-request act
 returns-4 c = λ m ts. let a = c .before .before .before .before .before .before .before .before .before .before .before .args in

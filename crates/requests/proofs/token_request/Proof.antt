@@ -8,107 +8,76 @@ use Rattle.requests.proofs.Requesting.{on-tokens}
 use borrow.Author.Needs.{needs}
 use Rattle.requests.proofs.token_request.Statement.{statement}
 use Rattle.requests.proofs.token_request.Tie as tie
-use Rattle.requests.proofs.token_request.Reads as reads
-use Rattle.requests.proofs.token_request.Lts as lts
-use Rattle.passing.proofs.answer.Reads as answer-reads
-use Rattle.passing.proofs.grab.Reads as grab-reads
-use Rattle.passing.proofs.inhibit.Reads as inhibit-reads
-use Rattle.passing.proofs.offer.Reads as offer-reads
-use Rattle.passing.proofs.please.Reads as please-reads
-use Rattle.passing.proofs.release.Reads as release-reads
-use Rattle.passing.proofs.test.Reads as test-reads
 
--- src/lib.rt:35:15
 grab-requires : tie.Need-grab-requires
 grab-requires c κs = search needs
 
--- src/lib.rt:36:15
 inhibit-requires : tie.Need-inhibit-requires
 inhibit-requires c κs = search needs
 
--- src/lib.rt:37:15
 offer-requires : tie.Need-offer-requires
 offer-requires c κs = search needs
 
--- src/lib.rt:39:26
 cast-result : tie.Need-cast-result
 cast-result c = search needs
 
--- src/lib.rt:40:13
 answer-requires : tie.Need-answer-requires
 answer-requires c κs = search needs
 
--- src/lib.rt:42:15
 please-requires : tie.Need-please-requires
 please-requires c κs = search needs
 
--- src/lib.rt:43:15
 release-requires : tie.Need-release-requires
 release-requires c κs = search needs
 
--- src/lib.rt:44:14
 test-requires : tie.Need-test-requires
 test-requires c κs = search needs
 
--- src/lib.rt:13:1
 same-length : tie.Need-same-length
 same-length c = search needs
 
--- src/lib.rt:13:1
 returns : tie.Need-returns
 unfolding token-request act tokens-full
 returns c = λ m cs new. let a = c .before .before .before .before .before .before .before .before .before .args in on-tokens (a .limits) m _ cs _ new (a .p) (token-request (a .number) (a .first) (a .second) (a .third)) _ _ (c .before .before .grab .ensures) (rw (c .before .before .before .before .before .before .before .match .keys1) refl)
 
--- src/lib.rt:13:1
 same-length-2 : tie.Need-same-length-2
 same-length-2 c = search needs
 
--- src/lib.rt:13:1
 returns-2 : tie.Need-returns-2
 unfolding token-request act tokens-full
 returns-2 c = λ m cs new. let a = c .before .before .before .before .before .before .before .before .before .args in on-tokens (a .limits) m _ cs _ new (a .p) (token-request (a .number) (a .first) (a .second) (a .third)) _ _ (c .before .before .inhibit .ensures) (rw (c .before .before .before .before .before .before .before .match .keys2) refl)
 
--- src/lib.rt:13:1
 same-length-3 : tie.Need-same-length-3
 same-length-3 c = search needs
 
--- src/lib.rt:13:1
 returns-3 : tie.Need-returns-3
 unfolding token-request act tokens-full
 returns-3 c = λ m cs new. let a = c .before .before .before .before .before .before .before .before .before .args in on-tokens (a .limits) m _ cs _ new (a .p) (token-request (a .number) (a .first) (a .second) (a .third)) _ _ (c .before .before .offer .ensures) (rw (c .before .before .before .before .before .before .before .match .keys3) refl)
 
--- src/lib.rt:13:1
 same-length-4 : tie.Need-same-length-4
 same-length-4 c = search needs
 
--- src/lib.rt:13:1
 returns-4 : tie.Need-returns-4
 unfolding token-request act tokens-full
 returns-4 c = λ m cs new. let a = c .before .before .before .before .before .before .before .before .before .args in on-tokens (a .limits) m _ cs _ new (a .p) (token-request (a .number) (a .first) (a .second) (a .third)) _ _ (c .before .before .answer .ensures) (let z : a .first % 16 % 16 ≡ a .first % 16 = omega arith in rw (c .before .before .before .before .before .before .before .match .keys4, z) refl)
 
--- src/lib.rt:13:1
 same-length-5 : tie.Need-same-length-5
 same-length-5 c = search needs
 
--- src/lib.rt:13:1
 returns-5 : tie.Need-returns-5
 unfolding token-request act tokens-full
 returns-5 c = λ m cs new. let a = c .before .before .before .before .before .before .before .before .before .args in on-tokens (a .limits) m _ cs _ new (a .p) (token-request (a .number) (a .first) (a .second) (a .third)) _ _ (c .before .before .please .ensures) (rw (c .before .before .before .before .before .before .before .match .keys5) refl)
 
--- src/lib.rt:13:1
 same-length-6 : tie.Need-same-length-6
 same-length-6 c = search needs
 
--- src/lib.rt:13:1
 returns-6 : tie.Need-returns-6
 unfolding token-request act tokens-full
 returns-6 c = λ m cs new. let a = c .before .before .before .before .before .before .before .before .before .args in on-tokens (a .limits) m _ cs _ new (a .p) (token-request (a .number) (a .first) (a .second) (a .third)) _ _ (c .before .before .release .ensures) (rw (c .before .before .before .before .before .before .before .match .keys6) refl)
 
--- src/lib.rt:13:1
 same-length-7 : tie.Need-same-length-7
 same-length-7 c = search needs
 
--- src/lib.rt:13:1
 returns-7 : tie.Need-returns-7
 unfolding token-request act tokens-full
 returns-7 c = λ m cs new. let a = c .before .before .before .before .before .before .before .before .before .args in

@@ -11,58 +11,42 @@ use Rattle.requests.proofs.Requesting.{on-both}
 use borrow.Author.Needs.{needs}
 use Rattle.requests.proofs.user_request.Statement.{statement}
 use Rattle.requests.proofs.user_request.Tie as tie
-use Rattle.requests.proofs.user_request.Reads as reads
-use Rattle.requests.proofs.user_request.Lts as lts
-use Rattle.channels.proofs.attach.Reads as attach-reads
-use Rattle.leaving.proofs.close.Reads as close-reads
-use Rattle.leaving.proofs.detach.Reads as detach-reads
 
--- src/lib.rt:226:13
 attach-requires : tie.Need-attach-requires
 attach-requires c κs = search needs
 
--- src/lib.rt:241:26
 cast-reason : tie.Need-cast-reason
 cast-reason c = search needs
 
--- src/lib.rt:242:13
 detach-requires : tie.Need-detach-requires
 detach-requires c κs = search needs
 
--- src/lib.rt:261:14
 close-requires : tie.Need-close-requires
 close-requires c κs = search needs
 
--- src/lib.rt:189:1
 returns : tie.Need-returns
 unfolding user-request act settle
 returns c = rw (c .match .keys1) (sends-none 0 _ _ _)
 
--- src/lib.rt:189:1
 same-length : tie.Need-same-length
 same-length c = search needs
 
--- src/lib.rt:189:1
 returns-2 : tie.Need-returns-2
 unfolding user-request act users-full channels-full
 returns-2 c = let a = c .before .before .before .before .before .before .before .before .before .before .before .before .before .args in on-both (a .limits) _ _ _ _ _ (a .p) (user-request (a .number) (a .first) (take (a .count) (a .listed .now))) _ _ (c .before .before .attach .ensures) (rw (c .before .before .before .before .before .before .before .before .before .before .before .match .keys2) refl)
 
--- src/lib.rt:189:1
 same-length-2 : tie.Need-same-length-2
 same-length-2 c = search needs
 
--- src/lib.rt:189:1
 returns-3 : tie.Need-returns-3
 unfolding user-request act
 returns-3 c = let a = c .before .before .before .before .before .before .before .before .before .before .before .before .before .before .before .before .before .args in
     let z : a .first % 8 % 8 ≡ a .first % 8 = omega arith in
     rw (c .before .before .before .before .before .before .before .before .before .before .before .before .before .before .before .match .keys3) (rw z at (c .before .before .detach .ensures (a .limits)))
 
--- src/lib.rt:189:1
 same-length-3 : tie.Need-same-length-3
 same-length-3 c = search needs
 
--- src/lib.rt:189:1
 returns-4 : tie.Need-returns-4
 unfolding user-request act
 returns-4 c = let a = c .before .before .before .before .before .before .before .before .before .before .before .before .before .before .before .before .before .args in

@@ -5,12 +5,6 @@ use lib.ListN.{length}
 use borrow.Author.Needs.{needs}
 use Rattle.tracing.proofs.play.Statement.{statement}
 use Rattle.tracing.proofs.play.Tie as tie
-use Rattle.tracing.proofs.play.Reads as reads
-use Rattle.tracing.proofs.play.Lts as lts
-use Rattle.streams.proofs.input.start.Reads as start-reads
-use Rattle.streams.proofs.lines.flush.Reads as flush-reads
-use Rattle.tracing.proofs.show_end.Reads as show-end-reads
-use Rattle.tracing.proofs.step.Reads as step-reads
 
 abbrev Inv-loop : tie.InvT-loop
 Inv-loop input₀ output₀ limits links₀ names₀ homes₀ ids₀ roles₀ chairs₀ guests₀ marks₀ keys₀ modes₀ values₀ old-keys₀ old-modes₀ old-values₀ room₀ form at₀ turns₀ input output links names homes ids roles chairs guests marks keys modes values old-keys old-modes old-values room at turns = (length input ≡ length input₀) × (length output ≡ length output₀)
@@ -18,50 +12,39 @@ Inv-loop input₀ output₀ limits links₀ names₀ homes₀ ids₀ roles₀ ch
 abbrev μ-loop : tie.MeasureT-loop
 μ-loop input₀ output₀ limits links₀ names₀ homes₀ ids₀ roles₀ chairs₀ guests₀ marks₀ keys₀ modes₀ values₀ old-keys₀ old-modes₀ old-values₀ room₀ form at₀ turns₀ input output links names homes ids roles chairs guests marks keys modes values old-keys old-modes old-values room at turns = turns
 
--- src/lib.rt:352:15
 start-requires : tie.Need-start-requires Inv-loop μ-loop
 start-requires c κs = tt
 
--- src/lib.rt:358:5
 loop-holds : tie.Need-loop-holds Inv-loop μ-loop
 loop-holds c = (refl, refl)
 
--- src/lib.rt:359:9
 step-requires : tie.Need-step-requires Inv-loop μ-loop
 step-requires c κs = tt
 
--- src/lib.rt:381:9
 sub-turns : tie.Need-sub-turns Inv-loop μ-loop
 sub-turns c = omega arith
 
--- src/lib.rt:358:5
 loop-less : tie.Need-loop-less Inv-loop μ-loop
 loop-less c = omega arith
 
--- src/lib.rt:358:5
 loop-again : tie.Need-loop-again Inv-loop μ-loop
 loop-again c =
     let s = c .before .before .before .before .step .kept in
     let l = c .before .before .before .before .before .before .before .before .before .before .before .before .before .before .before .before .before .before .before .before .before .before .before .before .loop .inv in
     (s .0 ∙ l .0, s .1 .0 ∙ l .1)
 
--- src/lib.rt:383:9
 show-end-requires : tie.Need-show-end-requires Inv-loop μ-loop
 show-end-requires c κs = tt
 
--- src/lib.rt:384:5
 flush-requires : tie.Need-flush-requires Inv-loop μ-loop
 flush-requires c κs = tt
 
--- src/lib.rt:330:1
 same-length : tie.Need-same-length Inv-loop μ-loop
 same-length c = c .before .before .before .before .before .before .before .before .before .before .before .loop .inv .0
 
--- src/lib.rt:330:1
 same-length-2 : tie.Need-same-length-2 Inv-loop μ-loop
 same-length-2 c = c .before .before .before .before .show-end .kept .0 ∙ c .before .before .before .before .before .before .before .before .before .before .before .loop .inv .1
 
--- src/lib.rt:330:1
 returns : tie.Need-returns Inv-loop μ-loop
 returns c = tt
 

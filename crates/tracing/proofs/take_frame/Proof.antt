@@ -8,11 +8,6 @@ use Rattle.frames.proofs.Laws.{inside}
 use borrow.Author.Needs.{needs}
 use Rattle.tracing.proofs.take_frame.Statement.{statement}
 use Rattle.tracing.proofs.take_frame.Tie as tie
-use Rattle.tracing.proofs.take_frame.Reads as reads
-use Rattle.tracing.proofs.take_frame.Lts as lts
-use Rattle.domain.proofs.numbers.reply_number.Reads as reply-number-reads
-use Rattle.frames.proofs.next_frame.Reads as next-frame-reads
-use Rattle.tracing.proofs.event.Reads as event-reads
 
 -- a good frame's octets lie in what is read
 lies : (c : tie.After-found) → (c .found .given .0 .1 .1 .0 ≤ c .found .given .0 .1 .1 .1 .0) × (c .found .given .0 .1 .1 .1 .0 ≤ length (now (c .before .before .before .before .args .s)))
@@ -21,63 +16,48 @@ lies c =
     inside (now (c .before .before .before .before .args .s)) (kindNumber (g .0)) (g .1 .0) (g .1 .1 .0) (g .1 .1 .1 .0)
     (sym (c .before .before .next-frame .ensures) ∙ ap meaning (c .found .given .1))
 
--- src/lib.rt:85:9
 next-frame-requires : tie.Need-next-frame-requires
 next-frame-requires c κs = search needs
 
--- src/lib.rt:87:23
 enum-told : tie.Need-enum-told
 enum-told c = search needs
 
--- src/lib.rt:95:50
 enum-told-2 : tie.Need-enum-told-2
 enum-told-2 c = search needs
 
--- src/lib.rt:95:20
 reply-number-requires : tie.Need-reply-number-requires
 reply-number-requires c κs = search needs
 
--- src/lib.rt:95:20
 cast-t25 : tie.Need-cast-t25
 cast-t25 c = search needs
 
--- src/lib.rt:102:13
 enum-known-found : tie.Need-enum-known-found
 enum-known-found c = search needs
 
--- src/lib.rt:108:120
 sub-event : tie.Need-sub-event
 sub-event c = lies (c .before .before .before .before .before .before .before .before .before .before .before .before) .0
 
--- src/lib.rt:108:120
 part-event-start : tie.Need-part-event-start
 part-event-start c = lies (c .before .before .before .before .before .before .before .before .before .before .before .before) .0
 
--- src/lib.rt:108:120
 part-event-end : tie.Need-part-event-end
 part-event-end c = lies (c .before .before .before .before .before .before .before .before .before .before .before .before) .1
 
--- src/lib.rt:107:17
 event-requires : tie.Need-event-requires
 event-requires c κs = search needs
 
--- src/lib.rt:112:24
 reply-number-requires-2 : tie.Need-reply-number-requires-2
 reply-number-requires-2 c κs = search needs
 
--- src/lib.rt:112:24
 cast-t43 : tie.Need-cast-t43
 cast-t43 c = search needs
 
--- src/lib.rt:67:1
 returns : tie.Need-returns
 returns c = search needs
 
--- src/lib.rt:67:1
 returns-2 : tie.Need-returns-2
 returns-2 c = search needs
 
--- src/lib.rt:67:1
 returns-3 : tie.Need-returns-3
 returns-3 c = lies (c .before .before .before .before .before .before .before .before .before .before .before .before .before .before .before .before) .1
 

@@ -3,25 +3,19 @@ use borrow.Author.Tests.{ne-eqb}
 use Rattle.domain.specs.Cells.{kind}
 use Rattle.domain.proofs.channel.kind_of.Statement.{statement}
 use Rattle.domain.proofs.channel.kind_of.Tie as tie
-use Rattle.domain.proofs.channel.kind_of.Reads as reads
-use Rattle.domain.proofs.channel.kind_of.Lts as lts
 
--- src/channel.rt:26:1
 returns : tie.Need-returns
 unfolding kind
 returns c = rw (c .match .keys1) refl
 
--- src/channel.rt:26:1
 returns-2 : tie.Need-returns-2
 unfolding kind
 returns-2 c = rw (c .match .keys2) refl
 
--- src/channel.rt:26:1
 returns-3 : tie.Need-returns-3
 unfolding kind
 returns-3 c = rw (c .match .keys3) refl
 
--- src/channel.rt:26:1
 returns-4 : tie.Need-returns-4
 unfolding kind
 returns-4 c = rw (ne-eqb _ _ (c .match .rest .0 .0 .1), ne-eqb _ _ (c .match .rest .0 .1), ne-eqb _ _ (c .match .rest .1)) refl

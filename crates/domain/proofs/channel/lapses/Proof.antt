@@ -3,41 +3,31 @@ use Rattle.domain.specs.Tables.{lapses}
 use borrow.Author.Needs.{needs}
 use Rattle.domain.proofs.channel.lapses.Statement.{statement}
 use Rattle.domain.proofs.channel.lapses.Tie as tie
-use Rattle.domain.proofs.channel.lapses.Reads as reads
-use Rattle.domain.proofs.channel.lapses.Lts as lts
 
--- src/channel.rt:55:25
 enum-told : tie.Need-enum-told
 enum-told c = search needs
 
--- src/channel.rt:56:23
 enum-told-2 : tie.Need-enum-told-2
 enum-told-2 c = search needs
 
--- src/channel.rt:57:32
 enum-told-3 : tie.Need-enum-told-3
 enum-told-3 c = search needs
 
--- src/channel.rt:58:27
 enum-told-4 : tie.Need-enum-told-4
 enum-told-4 c = search needs
 
--- src/channel.rt:51:1
 returns : tie.Need-returns
 unfolding lapses
 returns c = rw (c .enum-told .given .1) refl
 
--- src/channel.rt:51:1
 returns-2 : tie.Need-returns-2
 unfolding lapses
 returns-2 c = rw (c .enum-told2 .given .1) refl
 
--- src/channel.rt:51:1
 returns-3 : tie.Need-returns-3
 unfolding lapses
 returns-3 c = rw (c .enum-told3 .given .1) refl
 
--- src/channel.rt:51:1
 returns-4 : tie.Need-returns-4
 unfolding lapses
 returns-4 c = rw (c .enum-told4 .given .1) refl

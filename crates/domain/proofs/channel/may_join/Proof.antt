@@ -4,60 +4,46 @@ use Rattle.domain.specs.Channels.{may}
 use borrow.Author.Needs.{needs}
 use Rattle.domain.proofs.channel.may_join.Statement.{statement}
 use Rattle.domain.proofs.channel.may_join.Tie as tie
-use Rattle.domain.proofs.channel.may_join.Reads as reads
-use Rattle.domain.proofs.channel.may_join.Lts as lts
 
--- src/channel.rt:67:25
 enum-told : tie.Need-enum-told
 enum-told c = search needs
 
--- src/channel.rt:68:26
 enum-told-2 : tie.Need-enum-told-2
 enum-told-2 c = search needs
 
--- src/channel.rt:69:23
 enum-known-k : tie.Need-enum-known-k
 enum-known-k c = search needs
 
--- src/channel.rt:71:17
 returns : tie.Need-returns
 unfolding may
 returns c = rw (c .before .before .k .given .1, eq-eqb _ _ (c .if2 .taken)) refl
 
--- src/channel.rt:73:16
 has-requires : tie.Need-has-requires
 has-requires c κs = search needs
 
--- src/channel.rt:75:27
 enum-told-3 : tie.Need-enum-told-3
 enum-told-3 c = search needs
 
--- src/channel.rt:63:1
 returns-2 : tie.Need-returns-2
 unfolding may
 returns-2 c = rw (c .enum-told .given .1) refl
 
--- src/channel.rt:63:1
 returns-3 : tie.Need-returns-3
 unfolding may
 returns-3 c = rw (c .before .enum-told2 .given .1, eq-eqb _ _ (c .if1 .taken)) refl
 
--- src/channel.rt:63:1
 returns-4 : tie.Need-returns-4
 unfolding may
 returns-4 c = rw (c .before .enum-told2 .given .1, ne-eqb _ _ (c .if1 .left)) refl
 
--- src/channel.rt:63:1
 returns-5 : tie.Need-returns-5
 unfolding may
 returns-5 c = rw (c .before .before .before .before .k .given .1, ne-eqb _ _ (c .before .before .if2 .left), ← c .before .has .ensures, c .if3 .taken) refl
 
--- src/channel.rt:63:1
 returns-6 : tie.Need-returns-6
 unfolding may
 returns-6 c = rw (c .before .before .before .before .k .given .1, ne-eqb _ _ (c .before .before .if2 .left), ← c .before .has .ensures, c .if3 .left) refl
 
--- src/channel.rt:63:1
 returns-7 : tie.Need-returns-7
 unfolding may
 returns-7 c = rw (c .enum-told3 .given .1) refl

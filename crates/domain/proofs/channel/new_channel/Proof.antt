@@ -3,41 +3,31 @@ use Rattle.domain.specs.Cells.{channel-of}
 use borrow.Author.Needs.{needs}
 use Rattle.domain.proofs.channel.new_channel.Statement.{statement}
 use Rattle.domain.proofs.channel.new_channel.Tie as tie
-use Rattle.domain.proofs.channel.new_channel.Reads as reads
-use Rattle.domain.proofs.channel.new_channel.Lts as lts
 
--- src/channel.rt:43:25
 enum-told : tie.Need-enum-told
 enum-told c = search needs
 
--- src/channel.rt:44:23
 enum-told-2 : tie.Need-enum-told-2
 enum-told-2 c = search needs
 
--- src/channel.rt:45:23
 enum-known-k : tie.Need-enum-known-k
 enum-known-k c = search needs
 
--- src/channel.rt:46:27
 enum-told-3 : tie.Need-enum-told-3
 enum-told-3 c = search needs
 
--- src/channel.rt:39:1
 returns : tie.Need-returns
 unfolding channel-of
 returns c = rw (c .enum-told .given .1) refl
 
--- src/channel.rt:39:1
 returns-2 : tie.Need-returns-2
 unfolding channel-of
 returns-2 c = rw (c .enum-told2 .given .1) refl
 
--- src/channel.rt:39:1
 returns-3 : tie.Need-returns-3
 unfolding channel-of
 returns-3 c = rw (c .before .k .given .1) refl
 
--- src/channel.rt:39:1
 returns-4 : tie.Need-returns-4
 unfolding channel-of
 returns-4 c = rw (c .enum-told3 .given .1) refl

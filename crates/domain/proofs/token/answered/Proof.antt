@@ -3,55 +3,42 @@ use Rattle.domain.specs.Tokens.{answered}
 use borrow.Author.Needs.{needs}
 use Rattle.domain.proofs.token.answered.Statement.{statement}
 use Rattle.domain.proofs.token.answered.Tie as tie
-use Rattle.domain.proofs.token.answered.Reads as reads
-use Rattle.domain.proofs.token.answered.Lts as lts
 
--- src/token.rt:194:9
 returns : tie.Need-returns
 unfolding answered
 returns c = rw (c .if1 .taken) refl
 
--- src/token.rt:197:25
 enum-known-h : tie.Need-enum-known-h
 enum-known-h c = search needs
 
--- src/token.rt:198:30
 enum-told : tie.Need-enum-told
 enum-told c = search needs
 
--- src/token.rt:199:26
 enum-told-2 : tie.Need-enum-told-2
 enum-told-2 c = search needs
 
--- src/token.rt:200:26
 enum-known-h-2 : tie.Need-enum-known-h-2
 enum-known-h-2 c = search needs
 
--- src/token.rt:201:28
 enum-known-h-3 : tie.Need-enum-known-h-3
 enum-known-h-3 c = search needs
 
--- src/token.rt:190:1
 returns-2 : tie.Need-returns-2
 unfolding answered
 returns-2 c = rw (c .before .before .before .if1 .left, c .before .h .given .1) refl
 
--- src/token.rt:190:1
 returns-3 : tie.Need-returns-3
 unfolding answered
 returns-3 c = rw (c .before .before .if1 .left, c .enum-told .given .1) refl
 
--- src/token.rt:190:1
 returns-4 : tie.Need-returns-4
 unfolding answered
 returns-4 c = rw (c .before .before .if1 .left, c .enum-told2 .given .1) refl
 
--- src/token.rt:190:1
 returns-5 : tie.Need-returns-5
 unfolding answered
 returns-5 c = rw (c .before .before .before .if1 .left, c .before .h2 .given .1) refl
 
--- src/token.rt:190:1
 returns-6 : tie.Need-returns-6
 unfolding answered
 returns-6 c = rw (c .before .before .before .if1 .left, c .before .h3 .given .1) refl

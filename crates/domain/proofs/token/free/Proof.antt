@@ -3,50 +3,38 @@ use Rattle.domain.specs.Tables.{is-free}
 use borrow.Author.Needs.{needs}
 use Rattle.domain.proofs.token.free.Statement.{statement}
 use Rattle.domain.proofs.token.free.Tie as tie
-use Rattle.domain.proofs.token.free.Reads as reads
-use Rattle.domain.proofs.token.free.Lts as lts
 
--- src/token.rt:61:26
 enum-told : tie.Need-enum-told
 enum-told c = search needs
 
--- src/token.rt:62:32
 enum-told-2 : tie.Need-enum-told-2
 enum-told-2 c = search needs
 
--- src/token.rt:63:34
 enum-told-3 : tie.Need-enum-told-3
 enum-told-3 c = search needs
 
--- src/token.rt:64:34
 enum-told-4 : tie.Need-enum-told-4
 enum-told-4 c = search needs
 
--- src/token.rt:65:30
 enum-told-5 : tie.Need-enum-told-5
 enum-told-5 c = search needs
 
--- src/token.rt:57:1
 returns : tie.Need-returns
 unfolding is-free
 returns c = rw (c .enum-told .given .1) refl
 
--- src/token.rt:57:1
 returns-2 : tie.Need-returns-2
 unfolding is-free
 returns-2 c = rw (c .enum-told2 .given .1) refl
 
--- src/token.rt:57:1
 returns-3 : tie.Need-returns-3
 unfolding is-free
 returns-3 c = rw (c .enum-told3 .given .1) refl
 
--- src/token.rt:57:1
 returns-4 : tie.Need-returns-4
 unfolding is-free
 returns-4 c = rw (c .enum-told4 .given .1) refl
 
--- src/token.rt:57:1
 returns-5 : tie.Need-returns-5
 unfolding is-free
 returns-5 c = rw (c .enum-told5 .given .1) refl

@@ -4,64 +4,49 @@ use Rattle.domain.specs.Tokens.{grab}
 use borrow.Author.Needs.{needs}
 use Rattle.domain.proofs.token.grab.Statement.{statement}
 use Rattle.domain.proofs.token.grab.Tie as tie
-use Rattle.domain.proofs.token.grab.Reads as reads
-use Rattle.domain.proofs.token.grab.Lts as lts
 
--- src/token.rt:94:16
 enum-told : tie.Need-enum-told
 enum-told c = search needs
 
--- src/token.rt:96:46
 enum-told-2 : tie.Need-enum-told-2
 enum-told-2 c = search needs
 
--- src/token.rt:97:28
 enum-known-h : tie.Need-enum-known-h
 enum-known-h c = search needs
 
--- src/token.rt:98:22
 seat-requires : tie.Need-seat-requires
 seat-requires c κs = search needs
 
--- src/token.rt:104:48
 enum-told-3 : tie.Need-enum-told-3
 enum-told-3 c = search needs
 
--- src/token.rt:105:44
 enum-told-4 : tie.Need-enum-told-4
 enum-told-4 c = search needs
 
--- src/token.rt:89:1
 returns : tie.Need-returns
 unfolding grab
 returns c = rw (c .before .enum-told .given .1, c .if1 .taken) refl
 
--- src/token.rt:89:1
 returns-2 : tie.Need-returns-2
 unfolding grab
 returns-2 c = rw (c .before .enum-told .given .1, c .if1 .left) refl
 
--- src/token.rt:89:1
 returns-3 : tie.Need-returns-3
 unfolding grab
 returns-3 c = rw (c .enum-told2 .given .1) refl
 
--- src/token.rt:89:1
 returns-4 : tie.Need-returns-4
 unfolding grab
 returns-4 c = rw (c .before .before .before .h .given .1, ← c .before .seat .ensures, eq-eqb _ _ (c .if2 .taken)) refl
 
--- src/token.rt:89:1
 returns-5 : tie.Need-returns-5
 unfolding grab
 returns-5 c = rw (c .before .before .before .h .given .1, ← c .before .seat .ensures, ne-eqb _ _ (c .if2 .left)) refl
 
--- src/token.rt:89:1
 returns-6 : tie.Need-returns-6
 unfolding grab
 returns-6 c = rw (c .enum-told3 .given .1) refl
 
--- src/token.rt:89:1
 returns-7 : tie.Need-returns-7
 unfolding grab
 returns-7 c = rw (c .enum-told4 .given .1) refl

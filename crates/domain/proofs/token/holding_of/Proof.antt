@@ -4,46 +4,35 @@ use Rattle.domain.specs.Cells.{hold}
 use borrow.Author.Needs.{needs}
 use Rattle.domain.proofs.token.holding_of.Statement.{statement}
 use Rattle.domain.proofs.token.holding_of.Tie as tie
-use Rattle.domain.proofs.token.holding_of.Reads as reads
-use Rattle.domain.proofs.token.holding_of.Lts as lts
 
--- src/token.rt:37:31
 cast-t6 : tie.Need-cast-t6
 cast-t6 c = search needs
 
--- src/token.rt:39:30
 cast-t9 : tie.Need-cast-t9
 cast-t9 c = search needs
 
--- src/token.rt:39:55
 cast-t11 : tie.Need-cast-t11
 cast-t11 c = search needs
 
--- src/token.rt:40:29
 cast-t13 : tie.Need-cast-t13
 cast-t13 c = search needs
 
--- src/token.rt:31:1
 returns : tie.Need-returns
 unfolding hold
 returns c = rw (c .match .keys1) refl
 
--- src/token.rt:31:1
 returns-2 : tie.Need-returns-2
 unfolding hold
 returns-2 c = rw (c .match .keys2) refl
 
--- src/token.rt:31:1
 returns-3 : tie.Need-returns-3
 unfolding hold
 returns-3 c = rw (c .match .keys3) refl
 
--- src/token.rt:31:1
 returns-4 : tie.Need-returns-4
 unfolding hold
 returns-4 c = rw (c .match .keys4) refl
 
--- src/token.rt:31:1
 returns-5 : tie.Need-returns-5
 unfolding hold
 returns-5 c = rw (ne-eqb _ _ (c .match .rest .0 .0 .0 .1), ne-eqb _ _ (c .match .rest .0 .0 .1), ne-eqb _ _ (c .match .rest .0 .1), ne-eqb _ _ (c .match .rest .1)) refl

@@ -4,72 +4,55 @@ use Rattle.domain.specs.Tokens.{inhibit}
 use borrow.Author.Needs.{needs}
 use Rattle.domain.proofs.token.inhibit.Statement.{statement}
 use Rattle.domain.proofs.token.inhibit.Tie as tie
-use Rattle.domain.proofs.token.inhibit.Reads as reads
-use Rattle.domain.proofs.token.inhibit.Lts as lts
 
--- src/token.rt:115:16
 enum-told : tie.Need-enum-told
 enum-told c = search needs
 
--- src/token.rt:118:50
 seat-requires : tie.Need-seat-requires
 seat-requires c κs = search needs
 
--- src/token.rt:121:26
 enum-known-h : tie.Need-enum-known-h
 enum-known-h c = search needs
 
--- src/token.rt:123:50
 seat-requires-2 : tie.Need-seat-requires-2
 seat-requires-2 c κs = search needs
 
--- src/token.rt:128:28
 enum-known-h-2 : tie.Need-enum-known-h-2
 enum-known-h-2 c = search needs
 
--- src/token.rt:128:68
 with-seat-requires : tie.Need-with-seat-requires
 with-seat-requires c κs = search needs
 
--- src/token.rt:129:48
 enum-told-2 : tie.Need-enum-told-2
 enum-told-2 c = search needs
 
--- src/token.rt:130:44
 enum-told-3 : tie.Need-enum-told-3
 enum-told-3 c = search needs
 
--- src/token.rt:110:1
 returns : tie.Need-returns
 unfolding inhibit
 returns c = rw (c .before .enum-told .given .1, c .if1 .taken) refl
 
--- src/token.rt:110:1
 returns-2 : tie.Need-returns-2
 unfolding inhibit
 returns-2 c = rw (c .before .before .enum-told .given .1, c .before .if1 .left, c .seat .ensures) refl
 
--- src/token.rt:110:1
 returns-3 : tie.Need-returns-3
 unfolding inhibit
 returns-3 c = rw (c .before .before .before .h .given .1, eq-eqb _ _ (c .before .if2 .taken), c .seat2 .ensures) refl
 
--- src/token.rt:110:1
 returns-4 : tie.Need-returns-4
 unfolding inhibit
 returns-4 c = rw (c .before .before .h .given .1, ne-eqb _ _ (c .if2 .left)) refl
 
--- src/token.rt:110:1
 returns-5 : tie.Need-returns-5
 unfolding inhibit
 returns-5 c = rw (c .before .before .h2 .given .1, c .with-seat .ensures) refl
 
--- src/token.rt:110:1
 returns-6 : tie.Need-returns-6
 unfolding inhibit
 returns-6 c = rw (c .enum-told2 .given .1) refl
 
--- src/token.rt:110:1
 returns-7 : tie.Need-returns-7
 unfolding inhibit
 returns-7 c = rw (c .enum-told3 .given .1) refl

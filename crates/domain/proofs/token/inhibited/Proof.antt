@@ -3,15 +3,11 @@ use borrow.Author.Tests.{eq-eqb, ne-eqb}
 use Rattle.domain.specs.Tokens.{inhibited}
 use Rattle.domain.proofs.token.inhibited.Statement.{statement}
 use Rattle.domain.proofs.token.inhibited.Tie as tie
-use Rattle.domain.proofs.token.inhibited.Reads as reads
-use Rattle.domain.proofs.token.inhibited.Lts as lts
 
--- src/token.rt:158:1
 returns : tie.Need-returns
 unfolding inhibited
 returns c = rw (eq-eqb _ _ (c .if1 .taken)) refl
 
--- src/token.rt:158:1
 returns-2 : tie.Need-returns-2
 unfolding inhibited
 returns-2 c = rw (ne-eqb _ _ (c .if1 .left)) refl

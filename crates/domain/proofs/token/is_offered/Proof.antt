@@ -3,50 +3,38 @@ use Rattle.domain.specs.Tokens.{offered-to}
 use borrow.Author.Needs.{needs}
 use Rattle.domain.proofs.token.is_offered.Statement.{statement}
 use Rattle.domain.proofs.token.is_offered.Tie as tie
-use Rattle.domain.proofs.token.is_offered.Reads as reads
-use Rattle.domain.proofs.token.is_offered.Lts as lts
 
--- src/token.rt:181:28
 enum-known-h : tie.Need-enum-known-h
 enum-known-h c = search needs
 
--- src/token.rt:182:24
 enum-known-h-2 : tie.Need-enum-known-h-2
 enum-known-h-2 c = search needs
 
--- src/token.rt:183:26
 enum-told : tie.Need-enum-told
 enum-told c = search needs
 
--- src/token.rt:184:32
 enum-told-2 : tie.Need-enum-told-2
 enum-told-2 c = search needs
 
--- src/token.rt:185:34
 enum-told-3 : tie.Need-enum-told-3
 enum-told-3 c = search needs
 
--- src/token.rt:177:1
 returns : tie.Need-returns
 unfolding offered-to
 returns c = rw (c .before .h .given .1) refl
 
--- src/token.rt:177:1
 returns-2 : tie.Need-returns-2
 unfolding offered-to
 returns-2 c = rw (c .before .h2 .given .1) refl
 
--- src/token.rt:177:1
 returns-3 : tie.Need-returns-3
 unfolding offered-to
 returns-3 c = rw (c .enum-told .given .1) refl
 
--- src/token.rt:177:1
 returns-4 : tie.Need-returns-4
 unfolding offered-to
 returns-4 c = rw (c .enum-told2 .given .1) refl
 
--- src/token.rt:177:1
 returns-5 : tie.Need-returns-5
 unfolding offered-to
 returns-5 c = rw (c .enum-told3 .given .1) refl

@@ -3,90 +3,67 @@ use Rattle.domain.specs.Tokens.{lose}
 use borrow.Author.Needs.{needs}
 use Rattle.domain.proofs.token.lose.Statement.{statement}
 use Rattle.domain.proofs.token.lose.Tie as tie
-use Rattle.domain.proofs.token.lose.Reads as reads
-use Rattle.domain.proofs.token.lose.Lts as lts
-use Rattle.domain.proofs.token.inhibited.Reads as inhibited-reads
-use Rattle.domain.proofs.token.lose_offer.Reads as lose-offer-reads
 
--- src/token.rt:223:26
 enum-told : tie.Need-enum-told
 enum-told c = search needs
 
--- src/token.rt:224:26
 enum-known-h : tie.Need-enum-known-h
 enum-known-h c = search needs
 
--- src/token.rt:224:35
 has-requires : tie.Need-has-requires
 has-requires c κs = search needs
 
--- src/token.rt:225:28
 enum-known-h-2 : tie.Need-enum-known-h-2
 enum-known-h-2 c = search needs
 
--- src/token.rt:225:45
 other-seats-requires : tie.Need-other-seats-requires
 other-seats-requires c κs = search needs
 
--- src/token.rt:225:35
 inhibited-requires : tie.Need-inhibited-requires
 inhibited-requires c κs = search needs
 
--- src/token.rt:226:25
 enum-known-h-3 : tie.Need-enum-known-h-3
 enum-known-h-3 c = search needs
 
--- src/token.rt:226:45
 has-requires-2 : tie.Need-has-requires-2
 has-requires-2 c κs = search needs
 
--- src/token.rt:226:73
 has-requires-3 : tie.Need-has-requires-3
 has-requires-3 c κs = search needs
 
--- src/token.rt:226:34
 lose-offer-requires : tie.Need-lose-offer-requires
 lose-offer-requires c κs = search needs
 
--- src/token.rt:227:24
 enum-known-h-4 : tie.Need-enum-known-h-4
 enum-known-h-4 c = search needs
 
--- src/token.rt:227:33
 has-requires-4 : tie.Need-has-requires-4
 has-requires-4 c κs = search needs
 
--- src/token.rt:219:1
 returns : tie.Need-returns
 unfolding lose
 returns c = rw (c .enum-told .given .1) refl
 
--- src/token.rt:219:1
 returns-2 : tie.Need-returns-2
 unfolding lose
 returns-2 c = rw (c .before .before .before .h .given .1, ← c .before .has .ensures, c .if1 .taken) refl
 
--- src/token.rt:219:1
 returns-3 : tie.Need-returns-3
 unfolding lose
 returns-3 c = rw (c .before .before .before .h .given .1, ← c .before .has .ensures, c .if1 .left) refl
 
--- src/token.rt:219:1
 returns-4 : tie.Need-returns-4
 unfolding lose
 returns-4 c = rw (c .before .before .before .h2 .given .1, ← c .before .other-seats .ensures, c .inhibited .ensures) refl
 
--- src/token.rt:219:1
 returns-5 : tie.Need-returns-5
 unfolding lose
 returns-5 c = rw (c .before .before .before .before .h3 .given .1, ← c .before .before .has2 .ensures, ← c .before .has3 .ensures, c .lose-offer .ensures) refl
 
--- src/token.rt:219:1
 returns-6 : tie.Need-returns-6
 unfolding lose
 returns-6 c = rw (c .before .before .before .h4 .given .1, ← c .before .has4 .ensures, c .if2 .taken) refl
 
--- src/token.rt:219:1
 returns-7 : tie.Need-returns-7
 unfolding lose
 returns-7 c = rw (c .before .before .before .h4 .given .1, ← c .before .has4 .ensures, c .if2 .left) refl

@@ -2,25 +2,19 @@ use mathlib.Core.Path.{refl}
 use Rattle.domain.specs.Tokens.{lose-offer}
 use Rattle.domain.proofs.token.lose_offer.Statement.{statement}
 use Rattle.domain.proofs.token.lose_offer.Tie as tie
-use Rattle.domain.proofs.token.lose_offer.Reads as reads
-use Rattle.domain.proofs.token.lose_offer.Lts as lts
 
--- src/token.rt:232:1
 returns : tie.Need-returns
 unfolding lose-offer
 returns c = rw (c .before .if1 .taken, c .if2 .taken) refl
 
--- src/token.rt:232:1
 returns-2 : tie.Need-returns-2
 unfolding lose-offer
 returns-2 c = rw (c .before .if1 .taken, c .if2 .left) refl
 
--- src/token.rt:232:1
 returns-3 : tie.Need-returns-3
 unfolding lose-offer
 returns-3 c = rw (c .before .if1 .left, c .if3 .taken) refl
 
--- src/token.rt:232:1
 returns-4 : tie.Need-returns-4
 unfolding lose-offer
 returns-4 c = rw (c .before .if1 .left, c .if3 .left) refl

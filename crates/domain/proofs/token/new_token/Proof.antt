@@ -3,74 +3,56 @@ use Rattle.domain.specs.Cells.{token-of}
 use borrow.Author.Needs.{needs}
 use Rattle.domain.proofs.token.new_token.Statement.{statement}
 use Rattle.domain.proofs.token.new_token.Tie as tie
-use Rattle.domain.proofs.token.new_token.Reads as reads
-use Rattle.domain.proofs.token.new_token.Lts as lts
 
--- src/token.rt:49:26
 enum-told : tie.Need-enum-told
 enum-told c = search needs
 
--- src/token.rt:50:26
 enum-known-h : tie.Need-enum-known-h
 enum-known-h c = search needs
 
--- src/token.rt:50:56
 cast-t8 : tie.Need-cast-t8
 cast-t8 c = search needs
 
--- src/token.rt:51:28
 enum-known-h-2 : tie.Need-enum-known-h-2
 enum-known-h-2 c = search needs
 
--- src/token.rt:52:25
 enum-known-h-3 : tie.Need-enum-known-h-3
 enum-known-h-3 c = search needs
 
--- src/token.rt:52:59
 cast-t9 : tie.Need-cast-t9
 cast-t9 c = search needs
 
--- src/token.rt:52:58
 mul-t10 : tie.Need-mul-t10
 mul-t10 c = search needs
 
--- src/token.rt:52:77
 cast-t11 : tie.Need-cast-t11
 cast-t11 c = search needs
 
--- src/token.rt:52:58
 add-t12 : tie.Need-add-t12
 add-t12 c = search needs
 
--- src/token.rt:53:24
 enum-known-h-4 : tie.Need-enum-known-h-4
 enum-known-h-4 c = search needs
 
--- src/token.rt:53:54
 cast-t13 : tie.Need-cast-t13
 cast-t13 c = search needs
 
--- src/token.rt:45:1
 returns : tie.Need-returns
 unfolding token-of
 returns c = rw (c .enum-told .given .1) refl
 
--- src/token.rt:45:1
 returns-2 : tie.Need-returns-2
 unfolding token-of
 returns-2 c = rw (c .before .h .given .1) refl
 
--- src/token.rt:45:1
 returns-3 : tie.Need-returns-3
 unfolding token-of
 returns-3 c = rw (c .before .h2 .given .1) refl
 
--- src/token.rt:45:1
 returns-4 : tie.Need-returns-4
 unfolding token-of
 returns-4 c = rw (c .before .h3 .given .1) refl
 
--- src/token.rt:45:1
 returns-5 : tie.Need-returns-5
 unfolding token-of
 returns-5 c = rw (c .before .h4 .given .1) refl

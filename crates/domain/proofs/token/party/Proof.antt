@@ -3,66 +3,50 @@ use Rattle.domain.specs.Tokens.{party}
 use borrow.Author.Needs.{needs}
 use Rattle.domain.proofs.token.party.Statement.{statement}
 use Rattle.domain.proofs.token.party.Tie as tie
-use Rattle.domain.proofs.token.party.Reads as reads
-use Rattle.domain.proofs.token.party.Lts as lts
 
--- src/token.rt:210:26
 enum-told : tie.Need-enum-told
 enum-told c = search needs
 
--- src/token.rt:211:26
 enum-known-h : tie.Need-enum-known-h
 enum-known-h c = search needs
 
--- src/token.rt:211:32
 seat-requires : tie.Need-seat-requires
 seat-requires c κs = search needs
 
--- src/token.rt:212:28
 enum-known-h-2 : tie.Need-enum-known-h-2
 enum-known-h-2 c = search needs
 
--- src/token.rt:213:25
 enum-known-h-3 : tie.Need-enum-known-h-3
 enum-known-h-3 c = search needs
 
--- src/token.rt:213:58
 seat-requires-2 : tie.Need-seat-requires-2
 seat-requires-2 c κs = search needs
 
--- src/token.rt:213:34
 with-seat-requires : tie.Need-with-seat-requires
 with-seat-requires c κs = search needs
 
--- src/token.rt:214:24
 enum-known-h-4 : tie.Need-enum-known-h-4
 enum-known-h-4 c = search needs
 
--- src/token.rt:214:30
 seat-requires-3 : tie.Need-seat-requires-3
 seat-requires-3 c κs = search needs
 
--- src/token.rt:206:1
 returns : tie.Need-returns
 unfolding party
 returns c = rw (c .enum-told .given .1) refl
 
--- src/token.rt:206:1
 returns-2 : tie.Need-returns-2
 unfolding party
 returns-2 c = rw (c .before .before .h .given .1, c .seat .ensures) refl
 
--- src/token.rt:206:1
 returns-3 : tie.Need-returns-3
 unfolding party
 returns-3 c = rw (c .before .h2 .given .1) refl
 
--- src/token.rt:206:1
 returns-4 : tie.Need-returns-4
 unfolding party
 returns-4 c = rw (c .before .before .before .h3 .given .1, c .with-seat .ensures, c .before .seat2 .ensures) refl
 
--- src/token.rt:206:1
 returns-5 : tie.Need-returns-5
 unfolding party
 returns-5 c = rw (c .before .before .h4 .given .1, c .seat3 .ensures) refl

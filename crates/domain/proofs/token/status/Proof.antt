@@ -4,79 +4,61 @@ use Rattle.domain.specs.Tokens.{status}
 use borrow.Author.Needs.{needs}
 use Rattle.domain.proofs.token.status.Statement.{statement}
 use Rattle.domain.proofs.token.status.Tie as tie
-use Rattle.domain.proofs.token.status.Reads as reads
-use Rattle.domain.proofs.token.status.Lts as lts
 
--- src/token.rt:73:26
 enum-told : tie.Need-enum-told
 enum-told c = search needs
 
--- src/token.rt:74:26
 enum-known-h : tie.Need-enum-known-h
 enum-known-h c = search needs
 
--- src/token.rt:75:28
 enum-known-h-2 : tie.Need-enum-known-h-2
 enum-known-h-2 c = search needs
 
--- src/token.rt:76:16
 has-requires : tie.Need-has-requires
 has-requires c κs = search needs
 
--- src/token.rt:78:25
 enum-known-h-3 : tie.Need-enum-known-h-3
 enum-known-h-3 c = search needs
 
--- src/token.rt:80:17
 returns : tie.Need-returns
 unfolding status
 returns c = rw (c .before .before .h3 .given .1, eq-eqb _ _ (c .if3 .taken)) refl
 
--- src/token.rt:84:24
 enum-known-h-4 : tie.Need-enum-known-h-4
 enum-known-h-4 c = search needs
 
--- src/token.rt:69:1
 returns-2 : tie.Need-returns-2
 unfolding status
 returns-2 c = rw (c .enum-told .given .1) refl
 
--- src/token.rt:69:1
 returns-3 : tie.Need-returns-3
 unfolding status
 returns-3 c = rw (c .before .before .h .given .1, eq-eqb _ _ (c .if1 .taken)) refl
 
--- src/token.rt:69:1
 returns-4 : tie.Need-returns-4
 unfolding status
 returns-4 c = rw (c .before .before .h .given .1, ne-eqb _ _ (c .if1 .left)) refl
 
--- src/token.rt:69:1
 returns-5 : tie.Need-returns-5
 unfolding status
 returns-5 c = rw (c .before .before .before .h2 .given .1, ← c .before .has .ensures, c .if2 .taken) refl
 
--- src/token.rt:69:1
 returns-6 : tie.Need-returns-6
 unfolding status
 returns-6 c = rw (c .before .before .before .h2 .given .1, ← c .before .has .ensures, c .if2 .left) refl
 
--- src/token.rt:69:1
 returns-7 : tie.Need-returns-7
 unfolding status
 returns-7 c = rw (c .before .before .before .h3 .given .1, ne-eqb _ _ (c .before .if3 .left), eq-eqb _ _ (c .if4 .taken)) refl
 
--- src/token.rt:69:1
 returns-8 : tie.Need-returns-8
 unfolding status
 returns-8 c = rw (c .before .before .before .h3 .given .1, ne-eqb _ _ (c .before .if3 .left), ne-eqb _ _ (c .if4 .left)) refl
 
--- src/token.rt:69:1
 returns-9 : tie.Need-returns-9
 unfolding status
 returns-9 c = rw (c .before .before .h4 .given .1, eq-eqb _ _ (c .if5 .taken)) refl
 
--- src/token.rt:69:1
 returns-10 : tie.Need-returns-10
 unfolding status
 returns-10 c = rw (c .before .before .h4 .given .1, ne-eqb _ _ (c .if5 .left)) refl

@@ -5,10 +5,6 @@ use lib.ListN.{length}
 use borrow.Author.Needs.{needs}
 use Rattle.explaining.proofs.sent.put_records.Statement.{statement}
 use Rattle.explaining.proofs.sent.put_records.Tie as tie
-use Rattle.explaining.proofs.sent.put_records.Reads as reads
-use Rattle.explaining.proofs.sent.put_records.Lts as lts
-use Rattle.explaining.proofs.sent.put_record.Reads as put-record-reads
-use Rattle.explaining.proofs.sent.size_at.Reads as size-at-reads
 
 abbrev Inv-loop : tie.InvT-loop
 Inv-loop out₀ filled records at₀ from₀ size₀ out at from size = (length out ≡ length out₀) × (from + size ≤ length records)
@@ -16,63 +12,48 @@ Inv-loop out₀ filled records at₀ from₀ size₀ out at from size = (length 
 abbrev μ-loop : tie.MeasureT-loop
 μ-loop out₀ filled records at₀ from₀ size₀ out at from size = length records - from
 
--- src/sent.rt:40:9
 size-at-requires : tie.Need-size-at-requires Inv-loop μ-loop
 size-at-requires c κs = search needs
 
--- src/sent.rt:41:5
 loop-holds : tie.Need-loop-holds Inv-loop μ-loop
 loop-holds c = search needs
 
--- src/sent.rt:42:19
 add-end : tie.Need-add-end Inv-loop μ-loop
 add-end c = search needs
 
--- src/sent.rt:43:34
 sub-put-record : tie.Need-sub-put-record Inv-loop μ-loop
 sub-put-record c = search needs
 
--- src/sent.rt:43:34
 part-put-record-start : tie.Need-part-put-record-start Inv-loop μ-loop
 part-put-record-start c = search needs
 
--- src/sent.rt:43:34
 part-put-record-end : tie.Need-part-put-record-end Inv-loop μ-loop
 part-put-record-end c = search needs
 
--- src/sent.rt:43:9
 put-record-requires : tie.Need-put-record-requires Inv-loop μ-loop
 put-record-requires c κs = search needs
 
--- src/sent.rt:45:24
 sub-size-at : tie.Need-sub-size-at Inv-loop μ-loop
 sub-size-at c = search needs
 
--- src/sent.rt:45:24
 part-size-at-start : tie.Need-part-size-at-start Inv-loop μ-loop
 part-size-at-start c = search needs
 
--- src/sent.rt:45:24
 part-size-at-end : tie.Need-part-size-at-end Inv-loop μ-loop
 part-size-at-end c = search needs
 
--- src/sent.rt:45:9
 size-at-requires-2 : tie.Need-size-at-requires-2 Inv-loop μ-loop
 size-at-requires-2 c κs = search needs
 
--- src/sent.rt:41:5
 loop-less : tie.Need-loop-less Inv-loop μ-loop
 loop-less c = search needs
 
--- src/sent.rt:41:5
 loop-again : tie.Need-loop-again Inv-loop μ-loop
 loop-again c = search needs
 
--- src/sent.rt:37:1
 same-length : tie.Need-same-length Inv-loop μ-loop
 same-length c = search needs
 
--- src/sent.rt:37:1
 returns : tie.Need-returns Inv-loop μ-loop
 returns c = search needs
 

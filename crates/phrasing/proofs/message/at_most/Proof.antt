@@ -2,14 +2,10 @@
 use Rattle.phrasing.proofs.PhraseLaws.{least-less, least-most}
 use Rattle.phrasing.proofs.message.at_most.Statement.{statement}
 use Rattle.phrasing.proofs.message.at_most.Tie as tie
-use Rattle.phrasing.proofs.message.at_most.Reads as reads
-use Rattle.phrasing.proofs.message.at_most.Lts as lts
 
--- src/message.rt:112:9
 returns : tie.Need-returns
 returns c = least-less (c .before .args .n) (c .before .args .most) (c .if1 .taken)
 
--- src/message.rt:108:1
 returns-2 : tie.Need-returns-2
 returns-2 c = least-most (c .before .args .n) (c .before .args .most) (c .if1 .left)
 

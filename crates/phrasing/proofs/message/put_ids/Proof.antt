@@ -6,9 +6,6 @@ use Rattle.streams.proofs.Saying.{Telling, telling-start, telling-step, telling
 use borrow.Author.Needs.{needs}
 use Rattle.phrasing.proofs.message.put_ids.Statement.{statement}
 use Rattle.phrasing.proofs.message.put_ids.Tie as tie
-use Rattle.phrasing.proofs.message.put_ids.Reads as reads
-use Rattle.phrasing.proofs.message.put_ids.Lts as lts
-use Rattle.phrasing.proofs.message.put_id.Reads as put-id-reads
 
 abbrev Inv-loop : tie.InvT-loop
 Inv-loop out₀ filled ids at₀ i₀ out at i = Telling idsTexts ids out₀ filled out at i
@@ -16,40 +13,31 @@ Inv-loop out₀ filled ids at₀ i₀ out at i = Telling idsTexts ids out₀ fil
 abbrev μ-loop : tie.MeasureT-loop
 μ-loop out₀ filled ids at₀ i₀ out at i = length ids - i
 
--- src/message.rt:65:5
 loop-holds : tie.Need-loop-holds Inv-loop μ-loop
 loop-holds c = telling-start
 
--- src/message.rt:66:30
 mul-put-id : tie.Need-mul-put-id Inv-loop μ-loop
 mul-put-id c = search needs
 
--- src/message.rt:66:30
 shared-slice-read-put-id : tie.Need-shared-slice-read-put-id Inv-loop μ-loop
 shared-slice-read-put-id c = search needs
 
--- src/message.rt:66:9
 put-id-requires : tie.Need-put-id-requires Inv-loop μ-loop
 put-id-requires c κs = search needs
 
--- src/message.rt:67:9
 add-i : tie.Need-add-i Inv-loop μ-loop
 add-i c = search needs
 
--- src/message.rt:65:5
 loop-less : tie.Need-loop-less Inv-loop μ-loop
 loop-less c = search needs
 
--- src/message.rt:65:5
 loop-again : tie.Need-loop-again Inv-loop μ-loop
 unfolding idsTexts
 loop-again c = telling-step (c .before .before .before .before .before .before .loop .inv) (c .before .before .before .before .before .loop-test .taken) (c .before .before .put-id .kept .0) (c .before .before .put-id .ensures)
 
--- src/message.rt:60:1
 same-length : tie.Need-same-length Inv-loop μ-loop
 same-length c = c .before .loop .inv .size
 
--- src/message.rt:60:1
 returns : tie.Need-returns Inv-loop μ-loop
 returns c = telling-end (c .before .loop .inv) (c .loop-test .left)
 

@@ -5,37 +5,26 @@ use Rattle.streams.proofs.Saying.{says-as}
 use borrow.Author.Needs.{needs}
 use Rattle.phrasing.proofs.message.put_list.Statement.{statement}
 use Rattle.phrasing.proofs.message.put_list.Tie as tie
-use Rattle.phrasing.proofs.message.put_list.Reads as reads
-use Rattle.phrasing.proofs.message.put_list.Lts as lts
-use Rattle.phrasing.proofs.message.put_ids.Reads as put-ids-reads
-use Rattle.streams.proofs.lines.say.Reads as say-reads
 
--- src/message.rt:77:33
 slice-aggregate-say : tie.Need-slice-aggregate-say
 slice-aggregate-say c = search needs
 
--- src/message.rt:77:9
 say-requires : tie.Need-say-requires
 say-requires c κs = search needs
 
--- src/message.rt:77:9
 same-length : tie.Need-same-length
 same-length c = search needs
 
--- src/message.rt:77:9
 returns : tie.Need-returns
 unfolding ascii
 returns c = says-as (c .before .before .say .ensures) (list-none (c .before .before .before .before .before .before .before .before .args .ids .now) (c .before .before .before .before .before .if1 .taken))
 
--- src/message.rt:79:5
 put-ids-requires : tie.Need-put-ids-requires
 put-ids-requires c κs = search needs
 
--- src/message.rt:73:1
 same-length-2 : tie.Need-same-length-2
 same-length-2 c = search needs
 
--- src/message.rt:73:1
 returns-2 : tie.Need-returns-2
 returns-2 c = says-as (c .before .before .put-ids .ensures) (list-some (c .before .before .before .before .before .before .before .args .ids .now) (c .before .before .before .before .if1 .left))
 

@@ -14,93 +14,64 @@ use Rattle.phrasing.specs.Messages.{fieldTexts, tailTexts}
 use borrow.Author.Needs.{needs}
 use Rattle.phrasing.proofs.message.put_message.Statement.{statement}
 use Rattle.phrasing.proofs.message.put_message.Tie as tie
-use Rattle.phrasing.proofs.message.put_message.Reads as reads
-use Rattle.phrasing.proofs.message.put_message.Lts as lts
-use Rattle.messages.proofs.tail_of.Reads as tail-of-reads
-use Rattle.phrasing.proofs.message.at_most.Reads as at-most-reads
-use Rattle.phrasing.proofs.message.put_fields.Reads as put-fields-reads
-use Rattle.phrasing.proofs.message.put_tail.Reads as put-tail-reads
-use Rattle.phrasing.proofs.message.put_unread.Reads as put-unread-reads
-use Rattle.reader.proofs.decode.Reads as decode-reads
-use Rattle.wording.proofs.words.say_named.Reads as say-named-reads
 
--- src/message.rt:136:9
 decode-requires : tie.Need-decode-requires
 decode-requires c κs = search needs
 
--- src/message.rt:138:9
 put-unread-requires : tie.Need-put-unread-requires
 put-unread-requires c κs = search needs
 
--- src/message.rt:138:9
 same-length : tie.Need-same-length
 same-length c = search needs
 
--- src/message.rt:138:9
 returns : tie.Need-returns
 returns c = says-as (c .before .before .put-unread .ensures) (message-unread (c .before .before .before .before .before .before .before .before .before .args .octets .now) (c .before .before .before .before .before .before .decode .result) _ (c .before .before .before .before .before .before .decode .ensures) (not-true _ (c .before .before .before .before .if1 .taken)))
 
--- src/message.rt:143:9
 slice-aggregate-all-values : tie.Need-slice-aggregate-all-values
 slice-aggregate-all-values c = search needs
 
--- src/message.rt:144:9
 slice-aggregate-all-ids : tie.Need-slice-aggregate-all-ids
 slice-aggregate-all-ids c = search needs
 
--- src/message.rt:145:9
 at-most-requires : tie.Need-at-most-requires
 at-most-requires c κs = search needs
 
--- src/message.rt:146:9
 at-most-requires-2 : tie.Need-at-most-requires-2
 at-most-requires-2 c κs = search needs
 
--- src/message.rt:147:9
 at-most-requires-3 : tie.Need-at-most-requires-3
 at-most-requires-3 c κs = search needs
 
--- src/message.rt:148:9
 say-named-requires : tie.Need-say-named-requires
 say-named-requires c κs = search needs
 
--- src/message.rt:149:40
 slice-aggregate-put-fields : tie.Need-slice-aggregate-put-fields
 slice-aggregate-put-fields c = sym (length-take-le (c .before .before .before .before .before .before .before .before .at-most .result) (c .before .before .before .before .before .before .before .before .before .before .before .before .before .before .before .decode .result .values) (c .before .before .before .before .before .before .before .before .at-most .ensures .1))
 
--- src/message.rt:149:9
 put-fields-requires : tie.Need-put-fields-requires
 put-fields-requires c κs = search needs
 
--- src/message.rt:153:9
 tail-of-requires : tie.Need-tail-of-requires
 tail-of-requires c κs = search needs
 
--- src/message.rt:154:9
 slice-aggregate-put-tail : tie.Need-slice-aggregate-put-tail
 slice-aggregate-put-tail c = sym (length-take-le (c .before .before .before .before .before .before .before .before .before .before .before .before .before .at-most2 .result) (c .before .before .before .before .before .before .before .before .before .before .before .before .before .before .before .before .before .before .before .before .before .decode .result .ids) (c .before .before .before .before .before .before .before .before .before .before .before .before .before .at-most2 .ensures .1))
 
--- src/message.rt:155:9
 sub-put-tail : tie.Need-sub-put-tail
 sub-put-tail c = search needs
 
--- src/message.rt:155:9
 part-put-tail-start : tie.Need-part-put-tail-start
 part-put-tail-start c = search needs
 
--- src/message.rt:155:9
 part-put-tail-end : tie.Need-part-put-tail-end
 part-put-tail-end c = search needs
 
--- src/message.rt:150:5
 put-tail-requires : tie.Need-put-tail-requires
 put-tail-requires c κs = search needs
 
--- src/message.rt:133:1
 same-length-2 : tie.Need-same-length-2
 same-length-2 c = search needs
 
--- src/message.rt:133:1
 returns-2 : tie.Need-returns-2
 returns-2 c =
     let t : Says _ _ (tailTexts (c .before .before .before .before .before .tail-of .result) (take (c .before .before .before .before .before .before .before .before .before .before .before .before .before .before .before .before .before .at-most2 .result) (c .before .before .before .before .before .before .before .before .before .before .before .before .before .before .before .before .before .before .before .before .before .before .before .before .before .decode .result .ids)) (take (length (c .before .before .before .before .before .before .before .before .before .before .before .before .before .before .before .before .before .before .before .before .before .before .before .before .before .before .before .before .args .octets .now) - (c .before .before .before .before .before .before .before .before .before .before .before .before .before .before .before .before .at-most3 .result)) (drop (c .before .before .before .before .before .before .before .before .before .before .before .before .before .before .before .before .at-most3 .result) (c .before .before .before .before .before .before .before .before .before .before .before .before .before .before .before .before .before .before .before .before .before .before .before .before .before .before .before .before .args .octets .now)))) _ _ = c .before .before .put-tail .ensures in

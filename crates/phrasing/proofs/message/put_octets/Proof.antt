@@ -5,37 +5,26 @@ use Rattle.streams.proofs.Saying.{says-as}
 use borrow.Author.Needs.{needs}
 use Rattle.phrasing.proofs.message.put_octets.Statement.{statement}
 use Rattle.phrasing.proofs.message.put_octets.Tie as tie
-use Rattle.phrasing.proofs.message.put_octets.Reads as reads
-use Rattle.phrasing.proofs.message.put_octets.Lts as lts
-use Rattle.streams.proofs.hexadecimal.say_octets.Reads as say-octets-reads
-use Rattle.streams.proofs.lines.say.Reads as say-reads
 
--- src/message.rt:87:33
 slice-aggregate-say : tie.Need-slice-aggregate-say
 slice-aggregate-say c = search needs
 
--- src/message.rt:87:9
 say-requires : tie.Need-say-requires
 say-requires c κs = search needs
 
--- src/message.rt:87:9
 same-length : tie.Need-same-length
 same-length c = search needs
 
--- src/message.rt:87:9
 returns : tie.Need-returns
 unfolding ascii
 returns c = says-as (c .before .before .say .ensures) (octets-none (c .before .before .before .before .before .before .before .before .args .octets .now) (c .before .before .before .before .before .if1 .taken))
 
--- src/message.rt:89:5
 say-octets-requires : tie.Need-say-octets-requires
 say-octets-requires c κs = search needs
 
--- src/message.rt:83:1
 same-length-2 : tie.Need-same-length-2
 same-length-2 c = search needs
 
--- src/message.rt:83:1
 returns-2 : tie.Need-returns-2
 returns-2 c = says-as (c .before .before .say-octets .ensures) (octets-some (c .before .before .before .before .before .before .before .args .octets .now) (c .before .before .before .before .if1 .left))
 

@@ -5,42 +5,28 @@ use Rattle.streams.proofs.Saying.{says-none, says-then, says-as}
 use borrow.Author.Needs.{needs}
 use Rattle.phrasing.proofs.message.put_tail.Statement.{statement}
 use Rattle.phrasing.proofs.message.put_tail.Tie as tie
-use Rattle.phrasing.proofs.message.put_tail.Reads as reads
-use Rattle.phrasing.proofs.message.put_tail.Lts as lts
-use Rattle.phrasing.proofs.message.put_list.Reads as put-list-reads
-use Rattle.phrasing.proofs.message.put_octets.Reads as put-octets-reads
-use Rattle.streams.proofs.lines.say.Reads as say-reads
-use Rattle.wording.proofs.words.say_named.Reads as say-named-reads
 
--- src/message.rt:97:9
 returns : tie.Need-returns
 returns c = let a = c .before .before .before .before .args in says-as says-none (tail-none (a .kind) (a .ids .now) (a .octets .now) (c .if1 .taken))
 
--- src/message.rt:99:30
 slice-aggregate-say : tie.Need-slice-aggregate-say
 slice-aggregate-say c = search needs
 
--- src/message.rt:99:9
 say-requires : tie.Need-say-requires
 say-requires c κs = search needs
 
--- src/message.rt:100:56
 sub-say-named : tie.Need-sub-say-named
 sub-say-named c = search needs
 
--- src/message.rt:100:9
 say-named-requires : tie.Need-say-named-requires
 say-named-requires c κs = search needs
 
--- src/message.rt:102:9
 put-octets-requires : tie.Need-put-octets-requires
 put-octets-requires c κs = search needs
 
--- src/message.rt:102:9
 same-length : tie.Need-same-length
 same-length c = search needs
 
--- src/message.rt:102:9
 returns-2 : tie.Need-returns-2
 unfolding ascii
 returns-2 c =
@@ -48,15 +34,12 @@ returns-2 c =
     says-as (says-then (c .before .before .before .before .before .before .before .before .before .before .before .say .ensures) (says-then (c .before .before .before .before .before .before .before .say-named .ensures) (c .before .before .put-octets .ensures)))
     (tail-octets (a .kind) (a .ids .now) (a .octets .now) (c .before .before .before .before .before .before .before .before .before .before .before .before .before .before .if1 .left) (c .before .before .before .before .if2 .taken))
 
--- src/message.rt:104:5
 put-list-requires : tie.Need-put-list-requires
 put-list-requires c κs = search needs
 
--- src/message.rt:93:1
 same-length-2 : tie.Need-same-length-2
 same-length-2 c = search needs
 
--- src/message.rt:93:1
 returns-3 : tie.Need-returns-3
 unfolding ascii
 returns-3 c =

@@ -5,72 +5,53 @@ use Rattle.streams.proofs.Saying.{says-as}
 use borrow.Author.Needs.{needs}
 use Rattle.phrasing.proofs.message.put_value.Statement.{statement}
 use Rattle.phrasing.proofs.message.put_value.Tie as tie
-use Rattle.phrasing.proofs.message.put_value.Reads as reads
-use Rattle.phrasing.proofs.message.put_value.Lts as lts
-use Rattle.streams.proofs.lines.say_number.Reads as say-number-reads
-use Rattle.wording.proofs.words.say_named.Reads as say-named-reads
 
--- src/message.rt:20:14
 say-named-requires : tie.Need-say-named-requires
 say-named-requires c κs = search needs
 
--- src/message.rt:21:14
 say-named-requires-2 : tie.Need-say-named-requires-2
 say-named-requires-2 c κs = search needs
 
--- src/message.rt:22:14
 say-named-requires-3 : tie.Need-say-named-requires-3
 say-named-requires-3 c κs = search needs
 
--- src/message.rt:23:14
 say-named-requires-4 : tie.Need-say-named-requires-4
 say-named-requires-4 c κs = search needs
 
--- src/message.rt:24:14
 say-number-requires : tie.Need-say-number-requires
 say-number-requires c κs = search needs
 
--- src/message.rt:16:1
 same-length : tie.Need-same-length
 same-length c = search needs
 
--- src/message.rt:16:1
 returns : tie.Need-returns
 unfolding valueText
 returns c = says-as (c .before .before .say-named .ensures) (value-at 0 (c .before .before .before .before .before .before .args .kind) (c .before .before .before .before .before .before .args .value) (c .before .before .before .before .match .keys1))
 
--- src/message.rt:16:1
 same-length-2 : tie.Need-same-length-2
 same-length-2 c = search needs
 
--- src/message.rt:16:1
 returns-2 : tie.Need-returns-2
 unfolding valueText
 returns-2 c = says-as (c .before .before .say-named2 .ensures) (value-at 1 (c .before .before .before .before .before .before .args .kind) (c .before .before .before .before .before .before .args .value) (c .before .before .before .before .match .keys2))
 
--- src/message.rt:16:1
 same-length-3 : tie.Need-same-length-3
 same-length-3 c = search needs
 
--- src/message.rt:16:1
 returns-3 : tie.Need-returns-3
 unfolding valueText
 returns-3 c = says-as (c .before .before .say-named3 .ensures) (value-at 2 (c .before .before .before .before .before .before .args .kind) (c .before .before .before .before .before .before .args .value) (c .before .before .before .before .match .keys3))
 
--- src/message.rt:16:1
 same-length-4 : tie.Need-same-length-4
 same-length-4 c = search needs
 
--- src/message.rt:16:1
 returns-4 : tie.Need-returns-4
 unfolding valueText
 returns-4 c = says-as (c .before .before .say-named4 .ensures) (value-at 3 (c .before .before .before .before .before .before .args .kind) (c .before .before .before .before .before .before .args .value) (c .before .before .before .before .match .keys4))
 
--- src/message.rt:16:1
 same-length-5 : tie.Need-same-length-5
 same-length-5 c = search needs
 
--- src/message.rt:16:1
 returns-5 : tie.Need-returns-5
 returns-5 c = let r = c .before .before .before .before .match .rest in says-as (c .before .before .say-number .ensures) (value-other (c .before .before .before .before .before .before .args .kind) (c .before .before .before .before .before .before .args .value) (r .0 .0 .0 .1) (r .0 .0 .1) (r .0 .1) (r .1))
 

@@ -4,19 +4,13 @@ use Rattle.provider.proofs.Turning.{not-not}
 use borrow.Author.Needs.{needs}
 use Rattle.provider.proofs.answers.is_open.Statement.{statement}
 use Rattle.provider.proofs.answers.is_open.Tie as tie
-use Rattle.provider.proofs.answers.is_open.Reads as reads
-use Rattle.provider.proofs.answers.is_open.Lts as lts
-use Rattle.places.proofs.masks.has.Reads as has-reads
 
--- src/answers.rt:23:9
 returns : tie.Need-returns
 returns c = rw (lt-ltb 15 (c .before .args .p) (c .if1 .taken)) refl
 
--- src/answers.rt:25:5
 has-requires : tie.Need-has-requires
 has-requires c κs = search needs
 
--- src/answers.rt:19:1
 returns-2 : tie.Need-returns-2
 returns-2 c = rw (le-ltb 15 (c .before .before .args .p) (c .before .if1 .left), ← c .has .ensures) (not-not (c .has .result))
 

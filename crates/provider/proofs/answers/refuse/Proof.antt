@@ -3,49 +3,34 @@ use Rattle.provider.proofs.Rejecting.{complains-bad, complains-forbidde
 use borrow.Author.Needs.{needs}
 use Rattle.provider.proofs.answers.refuse.Statement.{statement}
 use Rattle.provider.proofs.answers.refuse.Tie as tie
-use Rattle.provider.proofs.answers.refuse.Reads as reads
-use Rattle.provider.proofs.answers.refuse.Lts as lts
-use Rattle.domain.proofs.numbers.diagnostic_number.Reads as diagnostic-number-reads
-use Rattle.domain.proofs.numbers.reply_number.Reads as reply-number-reads
-use Rattle.provider.proofs.answers.reject.Reads as reject-reads
 
--- src/answers.rt:33:9
 reply-number-requires : tie.Need-reply-number-requires
 reply-number-requires c κs = search needs
 
--- src/answers.rt:35:13
 diagnostic-number-requires : tie.Need-diagnostic-number-requires
 diagnostic-number-requires c κs = search needs
 
--- src/answers.rt:36:9
 reject-requires : tie.Need-reject-requires
 reject-requires c κs = search needs
 
--- src/answers.rt:36:9
 same-length : tie.Need-same-length
 same-length c = search needs
 
--- src/answers.rt:36:9
 returns : tie.Need-returns
 returns c = λ d. c .before .before .reject .ensures d ∙ complains-bad d _ _ _ _ _ (sym (c .before .before .before .before .before .before .reply-number .ensures) ∙ c .before .before .before .before .before .if1 .taken) (c .before .before .before .before .diagnostic-number .ensures)
 
--- src/answers.rt:39:13
 diagnostic-number-requires-2 : tie.Need-diagnostic-number-requires-2
 diagnostic-number-requires-2 c κs = search needs
 
--- src/answers.rt:40:9
 reject-requires-2 : tie.Need-reject-requires-2
 reject-requires-2 c κs = search needs
 
--- src/answers.rt:40:9
 same-length-2 : tie.Need-same-length-2
 same-length-2 c = search needs
 
--- src/answers.rt:40:9
 returns-2 : tie.Need-returns-2
 returns-2 c = λ d. c .before .before .reject2 .ensures d ∙ complains-forbidden d _ _ _ _ _ (sym (c .before .before .before .before .before .before .before .reply-number .ensures) ∙ c .before .before .before .before .before .if2 .taken) (c .before .before .before .before .diagnostic-number2 .ensures)
 
--- src/answers.rt:29:1
 returns-3 : tie.Need-returns-3
 returns-3 c = λ d. complains-none d _ _ _ _ (λ e. c .before .if1 .left (c .before .before .reply-number .ensures ∙ e)) (λ e. c .if2 .left (c .before .before .reply-number .ensures ∙ e))
 

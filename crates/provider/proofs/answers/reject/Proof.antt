@@ -4,44 +4,31 @@ use Rattle.provider.proofs.Rejecting.{rejection-inside, rejection-count
 use borrow.Author.Needs.{needs}
 use Rattle.provider.proofs.answers.reject.Statement.{statement}
 use Rattle.provider.proofs.answers.reject.Tie as tie
-use Rattle.provider.proofs.answers.reject.Reads as reads
-use Rattle.provider.proofs.answers.reject.Lts as lts
-use Rattle.records.proofs.compose.reject.Reads as reject-reads
-use Rattle.records.proofs.put_record.Reads as put-record-reads
 
--- src/answers.rt:54:38
 slice-aggregate-reject : tie.Need-slice-aggregate-reject
 slice-aggregate-reject c = search needs
 
--- src/answers.rt:54:9
 reject-requires : tie.Need-reject-requires
 reject-requires c κs = search needs
 
--- src/answers.rt:55:17
 add-total : tie.Need-add-total
 add-total c = let n = rejection-few (c .before .before .before .before .before .args .octets .now) (c .before .before .before .before .before .args .diagnostic) (search needs) _ _ _ (c .before .reject .ensures) refl in omega arith
 
--- src/answers.rt:57:9
 returns : tie.Need-returns
 returns c = λ d. rejection-full (c .before .before .before .before .before .before .args .octets .now) (c .before .before .before .before .before .before .args .diagnostic) (search needs) _ _ _ (c .before .before .reject .ensures) refl _ _ d _ (c .if1 .taken)
 
--- src/answers.rt:62:44
 array-share-prefix-m : tie.Need-array-share-prefix-m
 array-share-prefix-m c = rejection-inside (c .before .before .before .before .before .before .before .args .octets .now) (c .before .before .before .before .before .before .before .args .diagnostic) (search needs) _ _ _ (c .before .before .before .reject .ensures) refl
 
--- src/answers.rt:62:44
 slice-aggregate-put-record : tie.Need-slice-aggregate-put-record
 slice-aggregate-put-record c = rejection-count (c .before .before .before .before .before .before .before .before .args .octets .now) (c .before .before .before .before .before .before .before .before .args .diagnostic) (search needs) _ _ _ (c .before .before .before .before .reject .ensures) refl
 
--- src/answers.rt:62:9
 put-record-requires : tie.Need-put-record-requires
 put-record-requires c κs = search needs
 
--- src/answers.rt:49:1
 same-length : tie.Need-same-length
 same-length c = search needs
 
--- src/answers.rt:49:1
 returns-2 : tie.Need-returns-2
 returns-2 c = λ d. rejection-sent (c .before .before .before .before .before .before .before .before .before .before .before .args .octets .now) (c .before .before .before .before .before .before .before .before .before .before .before .args .diagnostic) (search needs) _ _ _ (c .before .before .before .before .before .before .before .reject .ensures) refl _ _ d _ (c .before .before .before .before .before .if1 .left) _ _ (c .before .before .put-record .ensures)
 

@@ -3,30 +3,20 @@ use Rattle.provider.proofs.Limiting.{audience-at, audience-none}
 use borrow.Author.Needs.{needs}
 use Rattle.provider.proofs.asking.audience.Statement.{statement}
 use Rattle.provider.proofs.asking.audience.Tie as tie
-use Rattle.provider.proofs.asking.audience.Reads as reads
-use Rattle.provider.proofs.asking.audience.Lts as lts
-use Rattle.places.proofs.columns.find.Reads as find-reads
-use Rattle.places.proofs.masks.count_links.Reads as count-links-reads
-use Rattle.tables.proofs.channels.channel_at.Reads as channel-at-reads
 
--- src/asking.rt:11:9
 find-requires : tie.Need-find-requires
 find-requires c κs = search needs
 
--- src/asking.rt:14:13
 channel-at-requires : tie.Need-channel-at-requires
 channel-at-requires c κs = search needs
 
--- src/asking.rt:15:9
 count-links-requires : tie.Need-count-links-requires
 count-links-requires c κs = search needs
 
--- src/asking.rt:15:9
 returns : tie.Need-returns
 returns c = let a = c .before .before .before .before .before .before .args in
     audience-at (a .ids .now) _ (a .c) _ _ _ (find-at (a .ids .now) (a .c) _ (c .before .before .before .before .find .ensures) (search needs)) (c .before .channel-at .ensures) (c .count-links .ensures)
 
--- src/asking.rt:8:1
 returns-2 : tie.Need-returns-2
 returns-2 c = let a = c .before .before .before .before .args in
     audience-none (a .ids .now) _ (a .c) (find-nowhere (a .ids .now) (a .c) _ (c .before .before .find .ensures) (search needs))

@@ -3,25 +3,19 @@ use borrow.Author.Tests.{ne-eqb}
 use Rattle.provider.specs.Readings.{reply-for}
 use Rattle.provider.proofs.reading.reply_of.Statement.{statement}
 use Rattle.provider.proofs.reading.reply_of.Tie as tie
-use Rattle.provider.proofs.reading.reply_of.Reads as reads
-use Rattle.provider.proofs.reading.reply_of.Lts as lts
 
--- src/reading.rt:49:1
 returns : tie.Need-returns
 unfolding reply-for
 returns c = rw (c .match .keys1) refl
 
--- src/reading.rt:49:1
 returns-2 : tie.Need-returns-2
 unfolding reply-for
 returns-2 c = rw (c .match .keys2) refl
 
--- src/reading.rt:49:1
 returns-3 : tie.Need-returns-3
 unfolding reply-for
 returns-3 c = rw (c .match .keys3) refl
 
--- src/reading.rt:49:1
 returns-4 : tie.Need-returns-4
 unfolding reply-for
 returns-4 c = let n = c .before .args .refusal in rw (ne-eqb n 4 (c .match .rest .0 .0 .1), ne-eqb n 5 (c .match .rest .0 .1), ne-eqb n 7 (c .match .rest .1)) refl

@@ -7,32 +7,23 @@ use Rattle.provider.proofs.Limiting.{in-range-most}
 use borrow.Author.Needs.{needs}
 use Rattle.provider.proofs.starting.start.Statement.{statement}
 use Rattle.provider.proofs.starting.start.Tie as tie
-use Rattle.provider.proofs.starting.start.Reads as reads
-use Rattle.provider.proofs.starting.start.Lts as lts
-use Rattle.provider.proofs.starting.in_range.Reads as in-range-reads
 
--- src/starting.rt:41:9
 in-range-requires : tie.Need-in-range-requires
 in-range-requires c κs = search needs
 
--- src/starting.rt:42:9
 returns : tie.Need-returns
 unfolding begun
 returns c = rw (sym (c .before .in-range .ensures) ∙ not-true _ (c .if1 .taken)) refl
 
--- src/starting.rt:65:23
 cast-t20 : tie.Need-cast-t20
 cast-t20 c = let m = in-range-most _ _ _ _ (c .before .before .before .before .before .before .before .before .before .before .before .in-range .ensures) (not-false _ (c .before .before .before .before .before .before .before .before .before .before .if1 .left)) in omega arith
 
--- src/starting.rt:66:20
 cast-t21 : tie.Need-cast-t21
 cast-t21 c = let m = in-range-most _ _ _ _ (c .before .before .before .before .before .before .before .before .before .before .before .in-range .ensures) (not-false _ (c .before .before .before .before .before .before .before .before .before .before .if1 .left)) in omega arith
 
--- src/starting.rt:67:21
 cast-t22 : tie.Need-cast-t22
 cast-t22 c = let m = in-range-most _ _ _ _ (c .before .before .before .before .before .before .before .before .before .before .before .in-range .ensures) (not-false _ (c .before .before .before .before .before .before .before .before .before .before .if1 .left)) in omega arith
 
--- src/starting.rt:20:1
 returns-2 : tie.Need-returns-2
 unfolding begun fresh channel-cells token-cells
 returns-2 c = rw (sym (c .before .before .before .before .before .before .before .before .before .before .before .in-range .ensures) ∙ not-false _ (c .before .before .before .before .before .before .before .before .before .before .if1 .left)) refl

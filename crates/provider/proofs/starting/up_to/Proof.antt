@@ -4,15 +4,11 @@ use borrow.Author.Tests.{lt-leb, le-leb}
 use Rattle.domain.specs.Tables.{between}
 use Rattle.provider.proofs.starting.up_to.Statement.{statement}
 use Rattle.provider.proofs.starting.up_to.Tie as tie
-use Rattle.provider.proofs.starting.up_to.Reads as reads
-use Rattle.provider.proofs.starting.up_to.Lts as lts
 
--- src/starting.rt:88:9
 returns : tie.Need-returns
 unfolding between
 returns c = rw (lt-leb 1 (c .before .args .n) (c .if1 .taken)) refl
 
--- src/starting.rt:84:1
 returns-2 : tie.Need-returns-2
 unfolding between
 returns-2 c = rw (le-leb 1 (c .before .args .n) (c .if1 .left)) refl

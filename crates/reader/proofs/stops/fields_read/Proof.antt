@@ -3,9 +3,6 @@ use Prim.Native.Nat.{_≤_, _-_}
 use borrow.Author.Needs.{needs}
 use Rattle.reader.proofs.stops.fields_read.Statement.{statement}
 use Rattle.reader.proofs.stops.fields_read.Tie as tie
-use Rattle.reader.proofs.stops.fields_read.Reads as reads
-use Rattle.reader.proofs.stops.fields_read.Lts as lts
-use Rattle.reader.proofs.take_fields.Reads as take-fields-reads
 
 abbrev Inv-loop : tie.InvT-loop
 Inv-loop s from number line count i₀ i = i ≤ count
@@ -13,35 +10,27 @@ Inv-loop s from number line count i₀ i = i ≤ count
 abbrev μ-loop : tie.MeasureT-loop
 μ-loop s from number line count i₀ i = count - i
 
--- src/stops.rt:185:5
 loop-holds : tie.Need-loop-holds Inv-loop μ-loop
 loop-holds c = search needs
 
--- src/stops.rt:186:46
 add-take-fields : tie.Need-add-take-fields Inv-loop μ-loop
 add-take-fields c = search needs
 
--- src/stops.rt:186:13
 take-fields-requires : tie.Need-take-fields-requires Inv-loop μ-loop
 take-fields-requires c κs = search needs
 
--- src/stops.rt:188:13
 returns : tie.Need-returns Inv-loop μ-loop
 returns c = search needs
 
--- src/stops.rt:190:9
 add-i : tie.Need-add-i Inv-loop μ-loop
 add-i c = search needs
 
--- src/stops.rt:185:5
 loop-less : tie.Need-loop-less Inv-loop μ-loop
 loop-less c = search needs
 
--- src/stops.rt:185:5
 loop-again : tie.Need-loop-again Inv-loop μ-loop
 loop-again c = search needs
 
--- src/stops.rt:181:1
 returns-2 : tie.Need-returns-2 Inv-loop μ-loop
 returns-2 c = search needs
 

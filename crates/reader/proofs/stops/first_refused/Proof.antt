@@ -5,9 +5,6 @@ use Rattle.octets.proofs.Reading.{ends-value}
 use borrow.Author.Needs.{needs}
 use Rattle.reader.proofs.stops.first_refused.Statement.{statement}
 use Rattle.reader.proofs.stops.first_refused.Tie as tie
-use Rattle.reader.proofs.stops.first_refused.Reads as reads
-use Rattle.reader.proofs.stops.first_refused.Lts as lts
-use Rattle.octets.proofs.read_id.Reads as read-id-reads
 
 abbrev Inv-loop : tie.InvT-loop
 Inv-loop s from low count at₀ i₀ at i = at ≤ length s
@@ -15,39 +12,30 @@ Inv-loop s from low count at₀ i₀ at i = at ≤ length s
 abbrev μ-loop : tie.MeasureT-loop
 μ-loop s from low count at₀ i₀ at i = count - i
 
--- src/stops.rt:202:5
 loop-holds : tie.Need-loop-holds Inv-loop μ-loop
 loop-holds c = search needs
 
--- src/stops.rt:203:13
 read-id-requires : tie.Need-read-id-requires Inv-loop μ-loop
 read-id-requires c κs = search needs
 
--- src/stops.rt:205:27
 enum-told : tie.Need-enum-told Inv-loop μ-loop
 enum-told c = search needs
 
--- src/stops.rt:205:27
 returns : tie.Need-returns Inv-loop μ-loop
 returns c = search needs
 
--- src/stops.rt:206:27
 enum-known-g : tie.Need-enum-known-g Inv-loop μ-loop
 enum-known-g c = search needs
 
--- src/stops.rt:208:17
 add-i : tie.Need-add-i Inv-loop μ-loop
 add-i c = search needs
 
--- src/stops.rt:202:5
 loop-less : tie.Need-loop-less Inv-loop μ-loop
 loop-less c = search needs
 
--- src/stops.rt:202:5
 loop-again : tie.Need-loop-again Inv-loop μ-loop
 loop-again c = ends-value _ _ _ _ (c .before .g .given .1) (c .before .before .before .read-id .ensures .inside)
 
--- src/stops.rt:196:1
 returns-2 : tie.Need-returns-2 Inv-loop μ-loop
 returns-2 c = search needs
 

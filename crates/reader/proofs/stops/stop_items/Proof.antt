@@ -3,42 +3,28 @@ use Rattle.octets.proofs.Reading.{ends-value}
 use borrow.Author.Needs.{needs}
 use Rattle.reader.proofs.stops.stop_items.Statement.{statement}
 use Rattle.reader.proofs.stops.stop_items.Tie as tie
-use Rattle.reader.proofs.stops.stop_items.Reads as reads
-use Rattle.reader.proofs.stops.stop_items.Lts as lts
-use Rattle.octets.proofs.read_length.Reads as read-length-reads
-use Rattle.reader.proofs.stops.at_octet.Reads as at-octet-reads
-use Rattle.reader.proofs.stops.stop_listed.Reads as stop-listed-reads
-use Rattle.reader.proofs.stops.why_length.Reads as why-length-reads
 
--- src/stops.rt:240:9
 read-length-requires : tie.Need-read-length-requires
 read-length-requires c κs = search needs
 
--- src/stops.rt:242:17
 enum-known-g : tie.Need-enum-known-g
 enum-known-g c = search needs
 
--- src/stops.rt:242:57
 why-length-requires : tie.Need-why-length-requires
 why-length-requires c κs = search needs
 
--- src/stops.rt:242:23
 at-octet-requires : tie.Need-at-octet-requires
 at-octet-requires c κs = search needs
 
--- src/stops.rt:243:20
 enum-known-g-2 : tie.Need-enum-known-g-2
 enum-known-g-2 c = search needs
 
--- src/stops.rt:243:30
 stop-listed-requires : tie.Need-stop-listed-requires
 stop-listed-requires c κs = (search needs, ends-value _ _ _ _ (c .before .g2 .given .1) (c .before .before .before .read-length .ensures .inside), search needs)
 
--- src/stops.rt:236:1
 returns : tie.Need-returns
 returns c = search needs
 
--- src/stops.rt:236:1
 returns-2 : tie.Need-returns-2
 returns-2 c = search needs
 

@@ -3,42 +3,28 @@ use Rattle.octets.proofs.Reading.{ends-value}
 use borrow.Author.Needs.{needs}
 use Rattle.reader.proofs.stops.stop_number.Statement.{statement}
 use Rattle.reader.proofs.stops.stop_number.Tie as tie
-use Rattle.reader.proofs.stops.stop_number.Reads as reads
-use Rattle.reader.proofs.stops.stop_number.Lts as lts
-use Rattle.octets.proofs.read_length.Reads as read-length-reads
-use Rattle.reader.proofs.stops.at_octet.Reads as at-octet-reads
-use Rattle.reader.proofs.stops.stop_counted.Reads as stop-counted-reads
-use Rattle.reader.proofs.stops.why_length.Reads as why-length-reads
 
--- src/stops.rt:110:9
 read-length-requires : tie.Need-read-length-requires
 read-length-requires c κs = search needs
 
--- src/stops.rt:112:17
 enum-known-g : tie.Need-enum-known-g
 enum-known-g c = search needs
 
--- src/stops.rt:112:50
 why-length-requires : tie.Need-why-length-requires
 why-length-requires c κs = search needs
 
--- src/stops.rt:112:23
 at-octet-requires : tie.Need-at-octet-requires
 at-octet-requires c κs = search needs
 
--- src/stops.rt:113:20
 enum-known-g-2 : tie.Need-enum-known-g-2
 enum-known-g-2 c = search needs
 
--- src/stops.rt:113:30
 stop-counted-requires : tie.Need-stop-counted-requires
 stop-counted-requires c κs = (search needs, ends-value _ _ _ _ (c .before .g2 .given .1) (c .before .before .before .read-length .ensures .inside), search needs)
 
--- src/stops.rt:106:1
 returns : tie.Need-returns
 returns c = search needs
 
--- src/stops.rt:106:1
 returns-2 : tie.Need-returns-2
 returns-2 c = search needs
 

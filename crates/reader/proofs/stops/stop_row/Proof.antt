@@ -6,59 +6,40 @@ use Rattle.reader.proofs.RowLaws.{on-no, on-body}
 use borrow.Author.Needs.{needs}
 use Rattle.reader.proofs.stops.stop_row.Statement.{statement}
 use Rattle.reader.proofs.stops.stop_row.Tie as tie
-use Rattle.reader.proofs.stops.stop_row.Reads as reads
-use Rattle.reader.proofs.stops.stop_row.Lts as lts
-use Rattle.messages.proofs.count_in.Reads as count-in-reads
-use Rattle.messages.proofs.entry_of.Reads as entry-of-reads
-use Rattle.reader.proofs.presence.Reads as presence-reads
-use Rattle.reader.proofs.stops.at_octet.Reads as at-octet-reads
-use Rattle.reader.proofs.stops.stop_body.Reads as stop-body-reads
-use Rattle.reader.proofs.stops.why_refused.Reads as why-refused-reads
 
--- src/stops.rt:299:9
 entry-of-requires : tie.Need-entry-of-requires
 entry-of-requires c κs = search needs
 
 count-in-requires : tie.Need-count-in-requires
 count-in-requires c κs = search needs
 
--- src/stops.rt:300:9
 presence-requires : tie.Need-presence-requires
 presence-requires c κs = search needs
 
--- src/stops.rt:302:17
 enum-known-g : tie.Need-enum-known-g
 enum-known-g c = search needs
 
--- src/stops.rt:302:52
 why-refused-requires : tie.Need-why-refused-requires
 why-refused-requires c κs = search needs
 
--- src/stops.rt:302:23
 at-octet-requires : tie.Need-at-octet-requires
 at-octet-requires c κs = search needs
 
--- src/stops.rt:303:20
 enum-known-g-2 : tie.Need-enum-known-g-2
 enum-known-g-2 c = search needs
 
--- src/stops.rt:303:62
 cast-stop-body : tie.Need-cast-stop-body
 cast-stop-body c = search needs
 
--- src/stops.rt:303:54
 add-stop-body : tie.Need-add-stop-body
 add-stop-body c = search needs
 
--- src/stops.rt:303:35
 stop-body-requires : tie.Need-stop-body-requires
 stop-body-requires c κs = let b = on-body _ _ _ _ (c .before .before .before .presence .ensures) _ _ (c .before .g2 .given .1) in (b .1, search needs, rw (c .before .before .before .before .count-in .ensures ∙ count-at _ _ (c .before .before .before .before .before .entry-of .ensures)) (b .2), c .before .before .before .before .before .entry-of .ensures)
 
--- src/stops.rt:295:1
 returns : tie.Need-returns
 returns c = stops-with _ _ _ (c .at-octet .ensures) (on-no _ _ _ _ (c .before .before .before .before .before .presence .ensures) _ (c .before .before .before .g .given .1))
 
--- src/stops.rt:295:1
 returns-2 : tie.Need-returns-2
 returns-2 c = stops-as _ _ _ (c .stop-body .ensures) (rw (c .before .before .before .before .before .count-in .ensures ∙ count-at _ _ (c .before .before .before .before .before .before .entry-of .ensures)) (on-body _ _ _ _ (c .before .before .before .before .presence .ensures) _ _ (c .before .before .g2 .given .1) .0))
 

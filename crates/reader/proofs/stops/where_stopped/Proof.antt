@@ -6,53 +6,37 @@ use Rattle.octets.proofs.Reading.{ends-value}
 use borrow.Author.Needs.{needs}
 use Rattle.reader.proofs.stops.where_stopped.Statement.{statement}
 use Rattle.reader.proofs.stops.where_stopped.Tie as tie
-use Rattle.reader.proofs.stops.where_stopped.Reads as reads
-use Rattle.reader.proofs.stops.where_stopped.Lts as lts
-use Rattle.reader.proofs.stops.at_octet.Reads as at-octet-reads
-use Rattle.reader.proofs.stops.stop_row.Reads as stop-row-reads
-use Rattle.reader.proofs.take_code.Reads as take-code-reads
 
--- src/stops.rt:312:9
 at-octet-requires : tie.Need-at-octet-requires
 at-octet-requires c κs = search needs
 
--- src/stops.rt:312:9
 returns : tie.Need-returns
 returns c = stops-with _ _ _ (c .at-octet .ensures) (decode-none _ (c .before .if1 .taken))
 
--- src/stops.rt:315:9
 at-octet-requires-2 : tie.Need-at-octet-requires-2
 at-octet-requires-2 c κs = search needs
 
--- src/stops.rt:315:9
 returns-2 : tie.Need-returns-2
 returns-2 c = stops-with _ _ _ (c .at-octet2 .ensures) (decode-over _ (c .before .if2 .taken))
 
--- src/stops.rt:317:9
 take-code-requires : tie.Need-take-code-requires
 take-code-requires c κs = search needs
 
--- src/stops.rt:319:17
 enum-known-g : tie.Need-enum-known-g
 enum-known-g c = search needs
 
--- src/stops.rt:319:23
 at-octet-requires-3 : tie.Need-at-octet-requires-3
 at-octet-requires-3 c κs = search needs
 
--- src/stops.rt:320:20
 enum-known-g-2 : tie.Need-enum-known-g-2
 enum-known-g-2 c = search needs
 
--- src/stops.rt:320:30
 stop-row-requires : tie.Need-stop-row-requires
 stop-row-requires c κs = (ends-value _ _ _ _ (c .before .g2 .given .1) (c .before .before .before .take-code .ensures .inside), search needs, number-left _ (c .before .before .before .before .before .if1 .left) (c .before .before .before .before .if2 .left) (c .before .before .before .take-code .result) (c .before .before .before .take-code .ensures) _ _ (c .before .g2 .given .1))
 
--- src/stops.rt:308:1
 returns-3 : tie.Need-returns-3
 returns-3 c = stops-with _ _ _ (c .at-octet3 .ensures) (decode-no _ (c .before .before .before .before .before .before .if1 .left) (c .before .before .before .before .before .if2 .left) (c .before .before .before .before .take-code .result) (c .before .before .before .before .take-code .ensures) _ (c .before .before .g .given .1))
 
--- src/stops.rt:308:1
 returns-4 : tie.Need-returns-4
 returns-4 c = stops-as _ _ _ (c .stop-row .ensures) (sym (decode-is _ (c .before .before .before .before .before .before .if1 .left) (c .before .before .before .before .before .if2 .left) (c .before .before .before .before .take-code .result) (c .before .before .before .before .take-code .ensures) _ _ (c .before .before .g2 .given .1)))
 

@@ -5,23 +5,17 @@ use borrow.Author.Tests.{lt-ltb, le-ltb}
 use borrow.Author.Needs.{needs}
 use Rattle.streams.proofs.hexadecimal.digit.Statement.{statement}
 use Rattle.streams.proofs.hexadecimal.digit.Tie as tie
-use Rattle.streams.proofs.hexadecimal.digit.Reads as reads
-use Rattle.streams.proofs.hexadecimal.digit.Lts as lts
 
--- src/hexadecimal.rt:14:9
 add-result : tie.Need-add-result
 add-result c = search needs
 
--- src/hexadecimal.rt:16:9
 add-result-2 : tie.Need-add-result-2
 add-result-2 c = search needs
 
--- src/hexadecimal.rt:10:1
 returns : tie.Need-returns
 unfolding digitOf
 returns c = rw (lt-ltb _ _ (c .if1 .taken)) (search needs)
 
--- src/hexadecimal.rt:10:1
 returns-2 : tie.Need-returns-2
 unfolding digitOf
 returns-2 c = rw (le-ltb _ _ (c .if1 .left)) (search needs)

@@ -3,56 +3,40 @@ use Rattle.streams.proofs.Saying.{says-as, octet-apart, octet-close}
 use borrow.Author.Needs.{needs}
 use Rattle.streams.proofs.hexadecimal.say_octet.Statement.{statement}
 use Rattle.streams.proofs.hexadecimal.say_octet.Tie as tie
-use Rattle.streams.proofs.hexadecimal.say_octet.Reads as reads
-use Rattle.streams.proofs.hexadecimal.say_octet.Lts as lts
-use Rattle.streams.proofs.hexadecimal.digit.Reads as digit-reads
-use Rattle.streams.proofs.lines.say.Reads as say-reads
 
--- src/hexadecimal.rt:25:27
 digit-requires : tie.Need-digit-requires
 digit-requires c κs = search needs
 
--- src/hexadecimal.rt:25:46
 digit-requires-2 : tie.Need-digit-requires-2
 digit-requires-2 c κs = search needs
 
--- src/hexadecimal.rt:26:33
 slice-aggregate-say : tie.Need-slice-aggregate-say
 slice-aggregate-say c = search needs
 
--- src/hexadecimal.rt:26:9
 say-requires : tie.Need-say-requires
 say-requires c κs = search needs
 
--- src/hexadecimal.rt:26:9
 same-length : tie.Need-same-length
 same-length c = search needs
 
--- src/hexadecimal.rt:26:9
 returns : tie.Need-returns
 returns c = says-as (c .before .before .say .ensures) (octet-apart _ _ _ (c .before .before .before .before .before .before .before .before .before .args .octet) (c .before .before .before .before .before .before .before .if1 .taken) (c .before .before .before .before .before .before .digit .ensures) (c .before .before .before .before .before .digit2 .ensures))
 
--- src/hexadecimal.rt:28:17
 digit-requires-3 : tie.Need-digit-requires-3
 digit-requires-3 c κs = search needs
 
--- src/hexadecimal.rt:28:36
 digit-requires-4 : tie.Need-digit-requires-4
 digit-requires-4 c κs = search needs
 
--- src/hexadecimal.rt:29:22
 slice-aggregate-say-2 : tie.Need-slice-aggregate-say-2
 slice-aggregate-say-2 c = search needs
 
--- src/hexadecimal.rt:29:5
 say-requires-2 : tie.Need-say-requires-2
 say-requires-2 c κs = search needs
 
--- src/hexadecimal.rt:21:1
 same-length-2 : tie.Need-same-length-2
 same-length-2 c = search needs
 
--- src/hexadecimal.rt:21:1
 returns-2 : tie.Need-returns-2
 returns-2 c = says-as (c .before .before .say2 .ensures) (octet-close _ _ _ (c .before .before .before .before .before .before .before .before .before .args .octet) (c .before .before .before .before .before .before .before .if1 .left) (c .before .before .before .before .before .before .digit3 .ensures) (c .before .before .before .before .before .digit4 .ensures))
 

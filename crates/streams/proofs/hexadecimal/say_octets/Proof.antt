@@ -7,9 +7,6 @@ use Rattle.streams.proofs.Saying.{Telling, telling-start, telling-step,
 use borrow.Author.Needs.{needs}
 use Rattle.streams.proofs.hexadecimal.say_octets.Statement.{statement}
 use Rattle.streams.proofs.hexadecimal.say_octets.Tie as tie
-use Rattle.streams.proofs.hexadecimal.say_octets.Reads as reads
-use Rattle.streams.proofs.hexadecimal.say_octets.Lts as lts
-use Rattle.streams.proofs.hexadecimal.say_octet.Reads as say-octet-reads
 
 abbrev Inv-loop : tie.InvT-loop
 Inv-loop out₀ filled octets apart at₀ i₀ out at i = Telling (octetTexts apart) octets out₀ filled out at i
@@ -17,36 +14,28 @@ Inv-loop out₀ filled octets apart at₀ i₀ out at i = Telling (octetTexts ap
 abbrev μ-loop : tie.MeasureT-loop
 μ-loop out₀ filled octets apart at₀ i₀ out at i = length octets - i
 
--- src/hexadecimal.rt:38:5
 loop-holds : tie.Need-loop-holds Inv-loop μ-loop
 loop-holds c = telling-start
 
--- src/hexadecimal.rt:39:33
 shared-slice-read-say-octet : tie.Need-shared-slice-read-say-octet Inv-loop μ-loop
 shared-slice-read-say-octet c = search needs
 
--- src/hexadecimal.rt:39:9
 say-octet-requires : tie.Need-say-octet-requires Inv-loop μ-loop
 say-octet-requires c κs = search needs
 
--- src/hexadecimal.rt:40:9
 add-i : tie.Need-add-i Inv-loop μ-loop
 add-i c = search needs
 
--- src/hexadecimal.rt:38:5
 loop-less : tie.Need-loop-less Inv-loop μ-loop
 loop-less c = search needs
 
--- src/hexadecimal.rt:38:5
 loop-again : tie.Need-loop-again Inv-loop μ-loop
 unfolding octetTexts
 loop-again c = telling-step (c .before .before .before .before .before .before .loop .inv) (c .before .before .before .before .before .loop-test .taken) (c .before .before .say-octet .kept .0) (c .before .before .say-octet .ensures)
 
--- src/hexadecimal.rt:33:1
 same-length : tie.Need-same-length Inv-loop μ-loop
 same-length c = c .before .loop .inv .size
 
--- src/hexadecimal.rt:33:1
 returns : tie.Need-returns Inv-loop μ-loop
 returns c = telling-end (c .before .loop .inv) (c .loop-test .left)
 

@@ -3,19 +3,13 @@ use Rattle.streams.proofs.Saying.{says-one}
 use borrow.Author.Needs.{needs}
 use Rattle.streams.proofs.lines.say.Statement.{statement}
 use Rattle.streams.proofs.lines.say.Tie as tie
-use Rattle.streams.proofs.lines.say.Reads as reads
-use Rattle.streams.proofs.lines.say.Lts as lts
-use Rattle.streams.proofs.lines.collect.Reads as collect-reads
 
--- src/lines.rt:85:5
 collect-requires : tie.Need-collect-requires
 collect-requires c κs = search needs
 
--- src/lines.rt:82:1
 same-length : tie.Need-same-length
 same-length c = search needs
 
--- src/lines.rt:82:1
 returns : tie.Need-returns
 returns c = let a = c .before .before .before .before .before .before .args in says-one (a .out .now) (a .filled) (a .text .now) (c .before .before .collect .last .0) (c .before .before .collect .result) (c .before .before .collect .ensures)
 

@@ -6,32 +6,22 @@ use Rattle.streams.proofs.Texts.{few, digits-are}
 use borrow.Author.Needs.{needs}
 use Rattle.streams.proofs.lines.say_number.Statement.{statement}
 use Rattle.streams.proofs.lines.say_number.Tie as tie
-use Rattle.streams.proofs.lines.say_number.Reads as reads
-use Rattle.streams.proofs.lines.say_number.Lts as lts
-use Rattle.io.proofs.decimal.Reads as decimal-reads
-use Rattle.streams.proofs.lines.say.Reads as say-reads
 
--- src/lines.rt:93:9
 decimal-requires : tie.Need-decimal-requires
 decimal-requires c κs = search needs
 
--- src/lines.rt:94:22
 array-share-prefix-digits : tie.Need-array-share-prefix-digits
 array-share-prefix-digits c = search needs
 
--- src/lines.rt:94:22
 slice-aggregate-say : tie.Need-slice-aggregate-say
 slice-aggregate-say c = search needs
 
--- src/lines.rt:94:5
 say-requires : tie.Need-say-requires
 say-requires c κs = search needs
 
--- src/lines.rt:89:1
 same-length : tie.Need-same-length
 same-length c = search needs
 
--- src/lines.rt:89:1
 returns : tie.Need-returns
 returns c =
     let a = c .before .before .before .before .before .before .before .before .args in

@@ -5,33 +5,23 @@ use Rattle.domain.specs.Tables.{add-channel}
 use borrow.Author.Needs.{needs}
 use Rattle.tables.proofs.channels.add_channel.Statement.{statement}
 use Rattle.tables.proofs.channels.add_channel.Tie as tie
-use Rattle.tables.proofs.channels.add_channel.Reads as reads
-use Rattle.tables.proofs.channels.add_channel.Lts as lts
-use Rattle.places.proofs.columns.spare.Reads as spare-reads
-use Rattle.tables.proofs.channels.set_channel.Reads as set-channel-reads
 
--- src/channels.rt:66:9
 spare-requires : tie.Need-spare-requires
 spare-requires c κs = search needs
 
--- src/channels.rt:68:9
 mul-ids : tie.Need-mul-ids
 mul-ids c = search needs
 
--- src/channels.rt:68:9
 element-write-ids : tie.Need-element-write-ids
 element-write-ids c = search needs
 
--- src/channels.rt:69:9
 set-channel-requires : tie.Need-set-channel-requires
 set-channel-requires c κs = search needs
 
--- src/channels.rt:54:1
 returns : tie.Need-returns
 unfolding add-channel store
 returns c = rw (spare-at (c .before .before .before .before .before .before .before .before .before .args .ids .now) (c .before .before .before .before .before .before .spare .result) (c .before .before .before .before .before .before .spare .ensures) (search needs), c .set-channel .ensures) refl
 
--- src/channels.rt:54:1
 returns-2 : tie.Need-returns-2
 unfolding add-channel store
 returns-2 c = rw (spare-nowhere (c .before .before .before .before .args .ids .now) (c .before .spare .result) (c .before .spare .ensures) (search needs)) refl

@@ -3,38 +3,28 @@ use Rattle.domain.proofs.CellLaws.{channel-at, channel-none}
 use borrow.Author.Needs.{needs}
 use Rattle.tables.proofs.channels.channel_at.Statement.{statement}
 use Rattle.tables.proofs.channels.channel_at.Tie as tie
-use Rattle.tables.proofs.channels.channel_at.Reads as reads
-use Rattle.tables.proofs.channels.channel_at.Lts as lts
 
--- src/channels.rt:23:32
 shared-slice-read-t17 : tie.Need-shared-slice-read-t17
 shared-slice-read-t17 c = search needs
 
--- src/channels.rt:23:46
 shared-slice-read-t19 : tie.Need-shared-slice-read-t19
 shared-slice-read-t19 c = search needs
 
--- src/channels.rt:23:61
 mul-t20 : tie.Need-mul-t20
 mul-t20 c = search needs
 
--- src/channels.rt:23:61
 shared-slice-read-t22 : tie.Need-shared-slice-read-t22
 shared-slice-read-t22 c = search needs
 
--- src/channels.rt:23:75
 mul-t23 : tie.Need-mul-t23
 mul-t23 c = search needs
 
--- src/channels.rt:23:75
 shared-slice-read-t25 : tie.Need-shared-slice-read-t25
 shared-slice-read-t25 c = search needs
 
--- src/channels.rt:23:9
 returns : tie.Need-returns
 returns c = sym (channel-at (c .before .before .before .before .before .before .before .before .before .args .roles .now) (c .before .before .before .before .before .before .before .before .before .args .chairs .now) (c .before .before .before .before .before .before .before .before .before .args .guests .now) (c .before .before .before .before .before .before .before .before .before .args .marks .now) (c .before .before .before .before .before .before .before .before .before .args .j) (search needs) (search needs) (search needs) (search needs))
 
--- src/channels.rt:9:1
 returns-2 : tie.Need-returns-2
 returns-2 c = sym (channel-none (c .before .before .before .before .before .args .roles .now) (c .before .before .before .before .before .args .chairs .now) (c .before .before .before .before .before .args .guests .now) (c .before .before .before .before .before .args .marks .now) (c .before .before .before .before .before .args .j) (search needs))
 

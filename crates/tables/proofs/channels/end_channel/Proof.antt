@@ -4,28 +4,20 @@ use Rattle.domain.specs.Tables.{end-channel}
 use borrow.Author.Needs.{needs}
 use Rattle.tables.proofs.channels.end_channel.Statement.{statement}
 use Rattle.tables.proofs.channels.end_channel.Tie as tie
-use Rattle.tables.proofs.channels.end_channel.Reads as reads
-use Rattle.tables.proofs.channels.end_channel.Lts as lts
-use Rattle.tables.proofs.channels.set_channel.Reads as set-channel-reads
 
--- src/channels.rt:85:5
 set-channel-requires : tie.Need-set-channel-requires
 set-channel-requires c κs = search needs
 
--- src/channels.rt:87:9
 mul-ids : tie.Need-mul-ids
 mul-ids c = search needs
 
--- src/channels.rt:87:9
 element-write-ids : tie.Need-element-write-ids
 element-write-ids c = search needs
 
--- src/channels.rt:74:1
 returns : tie.Need-returns
 unfolding end-channel
 returns c = rw (c .before .before .before .set-channel .ensures) refl
 
--- src/channels.rt:74:1
 returns-2 : tie.Need-returns-2
 unfolding end-channel
 returns-2 c = rw (c .before .before .before .set-channel .ensures, set-out (c .before .before .before .before .before .before .before .before .args .ids .now) (c .before .before .before .before .before .before .before .before .args .j) 0 (search needs)) refl

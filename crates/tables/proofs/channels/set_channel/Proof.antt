@@ -3,38 +3,28 @@ use Rattle.domain.proofs.CellLaws.{channel-set, channel-out}
 use borrow.Author.Needs.{needs}
 use Rattle.tables.proofs.channels.set_channel.Statement.{statement}
 use Rattle.tables.proofs.channels.set_channel.Tie as tie
-use Rattle.tables.proofs.channels.set_channel.Reads as reads
-use Rattle.tables.proofs.channels.set_channel.Lts as lts
 
--- src/channels.rt:46:9
 element-write-roles : tie.Need-element-write-roles
 element-write-roles c = search needs
 
--- src/channels.rt:47:9
 element-write-chairs : tie.Need-element-write-chairs
 element-write-chairs c = search needs
 
--- src/channels.rt:48:9
 mul-guests : tie.Need-mul-guests
 mul-guests c = search needs
 
--- src/channels.rt:48:9
 element-write-guests : tie.Need-element-write-guests
 element-write-guests c = search needs
 
--- src/channels.rt:49:9
 mul-marks : tie.Need-mul-marks
 mul-marks c = search needs
 
--- src/channels.rt:49:9
 element-write-marks : tie.Need-element-write-marks
 element-write-marks c = search needs
 
--- src/channels.rt:34:1
 returns : tie.Need-returns
 returns c = channel-set (c .before .before .before .args .roles .now) (c .before .before .before .args .chairs .now) (c .before .before .before .args .guests .now) (c .before .before .before .args .marks .now) (c .before .before .before .args .j) (c .before .before .before .args .ch .role) (c .before .before .before .args .ch .chair) (c .before .before .before .args .ch .guests) (c .before .before .before .args .ch .marks)
 
--- src/channels.rt:34:1
 returns-2 : tie.Need-returns-2
 returns-2 c = sym (channel-out (c .before .before .before .args .roles .now) (c .before .before .before .args .chairs .now) (c .before .before .before .args .guests .now) (c .before .before .before .args .marks .now) (c .before .before .before .args .j) (c .before .before .before .args .ch) (search needs))
 

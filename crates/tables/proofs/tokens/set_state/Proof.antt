@@ -7,27 +7,16 @@ use Rattle.tables.proofs.TokenLaws.{set-free, set-held}
 use borrow.Author.Needs.{needs}
 use Rattle.tables.proofs.tokens.set_state.Statement.{statement}
 use Rattle.tables.proofs.tokens.set_state.Tie as tie
-use Rattle.tables.proofs.tokens.set_state.Reads as reads
-use Rattle.tables.proofs.tokens.set_state.Lts as lts
-use Rattle.domain.proofs.token.free.Reads as free-reads
-use Rattle.domain.proofs.token.new_token.Reads as new-token-reads
-use Rattle.places.proofs.columns.find.Reads as find-reads
-use Rattle.places.proofs.columns.spare.Reads as spare-reads
-use Rattle.tables.proofs.tokens.store.Reads as store-reads
 
--- src/tokens.rt:36:9
 find-requires : tie.Need-find-requires
 find-requires c κs = search needs
 
--- src/tokens.rt:37:8
 free-requires : tie.Need-free-requires
 free-requires c κs = search needs
 
--- src/tokens.rt:38:9
 store-requires : tie.Need-store-requires
 store-requires c κs = search needs
 
--- src/tokens.rt:39:9
 returns : tie.Need-returns
 returns c = let size : length (c .before .before .before .before .before .before .before .before .before .args .keys .now) ≡ 64 = search needs in
     let own = rw size at (find-place (c .before .before .before .before .before .before .before .before .before .args .keys .now) (c .before .before .before .before .before .before .before .before .before .args .k) (c .before .before .before .before .before .before .find .result) (c .before .before .before .before .before .before .find .ensures)) in
@@ -35,23 +24,18 @@ returns c = let size : length (c .before .before .before .before .before .before
     (c .store .last .0) (token-cells (c .store .last .1 .0) (c .store .last .1 .1 .0))
     (sym (c .before .before .before .before .before .free .ensures) ∙ c .before .before .before .before .if1 .taken) (rw own at (c .store .ensures .0)) (rw own at (c .store .ensures .1))
 
--- src/tokens.rt:41:9
 new-token-requires : tie.Need-new-token-requires
 new-token-requires c κs = search needs
 
--- src/tokens.rt:43:9
 store-requires-2 : tie.Need-store-requires-2
 store-requires-2 c κs = search needs
 
--- src/tokens.rt:45:13
 spare-requires : tie.Need-spare-requires
 spare-requires c κs = search needs
 
--- src/tokens.rt:46:9
 store-requires-3 : tie.Need-store-requires-3
 store-requires-3 c κs = search needs
 
--- src/tokens.rt:26:1
 returns-2 : tie.Need-returns-2
 returns-2 c = let size : length (c .before .before .before .before .before .before .before .before .before .before .before .args .keys .now) ≡ 64 = search needs in
     let own = rw size at (find-place (c .before .before .before .before .before .before .before .before .before .before .before .args .keys .now) (c .before .before .before .before .before .before .before .before .before .before .before .args .k) (c .before .before .before .before .before .before .before .before .find .result) (c .before .before .before .before .before .before .before .before .find .ensures))
@@ -60,7 +44,6 @@ returns-2 c = let size : length (c .before .before .before .before .before .befo
     (c .store2 .last .0) (token-cells (c .store2 .last .1 .0) (c .store2 .last .1 .1 .0))
     (sym (c .before .before .before .before .before .before .before .free .ensures) ∙ c .before .before .before .before .before .before .if1 .left) (rw own at (c .store2 .ensures .0)) (rw (own, c .before .before .before .before .before .new-token .ensures) at (c .store2 .ensures .1))
 
--- src/tokens.rt:26:1
 returns-3 : tie.Need-returns-3
 returns-3 c = let size : length (c .before .before .before .before .before .before .before .before .before .before .before .before .before .before .args .keys .now) ≡ 64 = search needs in
     let other = rw size at (spare-place (c .before .before .before .before .before .before .before .before .before .before .before .before .before .before .args .keys .now) (c .before .before .before .before .spare .result) (c .before .before .before .before .spare .ensures))

@@ -7,32 +7,22 @@ use Rattle.domain.specs.Tables.{state}
 use borrow.Author.Needs.{needs}
 use Rattle.tables.proofs.tokens.state.Statement.{statement}
 use Rattle.tables.proofs.tokens.state.Tie as tie
-use Rattle.tables.proofs.tokens.state.Reads as reads
-use Rattle.tables.proofs.tokens.state.Lts as lts
-use Rattle.domain.proofs.token.holding_of.Reads as holding-of-reads
-use Rattle.places.proofs.columns.find.Reads as find-reads
 
--- src/tokens.rt:13:9
 find-requires : tie.Need-find-requires
 find-requires c κs = search needs
 
--- src/tokens.rt:18:19
 shared-slice-read-t15 : tie.Need-shared-slice-read-t15
 shared-slice-read-t15 c = search needs
 
--- src/tokens.rt:19:20
 mul-t16 : tie.Need-mul-t16
 mul-t16 c = search needs
 
--- src/tokens.rt:19:20
 shared-slice-read-t18 : tie.Need-shared-slice-read-t18
 shared-slice-read-t18 c = search needs
 
--- src/tokens.rt:17:9
 holding-of-requires : tie.Need-holding-of-requires
 holding-of-requires c κs = search needs
 
--- src/tokens.rt:17:9
 returns : tie.Need-returns
 unfolding state load
 returns c = rw (
@@ -41,7 +31,6 @@ returns c = rw (
   token-at (c .before .before .before .before .before .before .before .before .args .modes .now) (c .before .before .before .before .before .before .before .before .args .values .now) (c .before .before .before .before .before .before .find .result) (search needs) (search needs),
 ) refl
 
--- src/tokens.rt:10:1
 returns-2 : tie.Need-returns-2
 unfolding state load hold
 returns-2 c = rw (find-nowhere (c .before .before .before .before .before .args .keys .now) (c .before .before .before .before .before .args .k) (c .before .before .before .find .result) (c .before .before .before .find .ensures) (search needs)) refl

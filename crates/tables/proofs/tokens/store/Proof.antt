@@ -6,35 +6,26 @@ use Rattle.tables.specs.Numbered.{place}
 use borrow.Author.Needs.{needs}
 use Rattle.tables.proofs.tokens.store.Statement.{statement}
 use Rattle.tables.proofs.tokens.store.Tie as tie
-use Rattle.tables.proofs.tokens.store.Reads as reads
-use Rattle.tables.proofs.tokens.store.Lts as lts
 
--- src/tokens.rt:63:9
 mul-keys : tie.Need-mul-keys
 mul-keys c = search needs
 
--- src/tokens.rt:63:9
 element-write-keys : tie.Need-element-write-keys
 element-write-keys c = search needs
 
--- src/tokens.rt:64:9
 element-write-modes : tie.Need-element-write-modes
 element-write-modes c = search needs
 
--- src/tokens.rt:65:9
 mul-values : tie.Need-mul-values
 mul-values c = search needs
 
--- src/tokens.rt:65:9
 element-write-values : tie.Need-element-write-values
 element-write-values c = search needs
 
--- src/tokens.rt:51:1
 returns : tie.Need-returns
 unfolding place store
 returns c = rw (lt-ltb (c .before .args .i) 64 (c .if1 .taken)) (refl, token-set (c .before .args .modes .now) (c .before .args .values .now) (c .before .args .i) (c .before .args .t .mode) (c .before .args .t .value))
 
--- src/tokens.rt:51:1
 returns-2 : tie.Need-returns-2
 unfolding place store
 returns-2 c = rw (le-ltb (c .before .args .i) 64 (c .if1 .left)) (refl, refl)

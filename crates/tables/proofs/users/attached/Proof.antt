@@ -4,19 +4,13 @@ use Rattle.tables.proofs.UserLaws.{attached-here, attached-elsewhere, a
 use borrow.Author.Needs.{needs}
 use Rattle.tables.proofs.users.attached.Statement.{statement}
 use Rattle.tables.proofs.users.attached.Tie as tie
-use Rattle.tables.proofs.users.attached.Reads as reads
-use Rattle.tables.proofs.users.attached.Lts as lts
-use Rattle.places.proofs.columns.find.Reads as find-reads
 
--- src/users.rt:12:9
 find-requires : tie.Need-find-requires
 find-requires c κs = search needs
 
--- src/users.rt:15:12
 shared-slice-read-if2 : tie.Need-shared-slice-read-if2
 shared-slice-read-if2 c = search needs
 
--- src/users.rt:16:13
 returns : tie.Need-returns
 returns c = (
   sym (attached-here (c .before .before .before .before .before .before .args .names .now) (c .before .before .before .before .before .before .args .homes .now) (c .before .before .before .before .before .before .args .p) (c .before .before .before .before .before .before .args .u) (c .before .before .before .before .find .result)
@@ -24,7 +18,6 @@ returns c = (
   search needs,
 )
 
--- src/users.rt:9:1
 returns-2 : tie.Need-returns-2
 returns-2 c = (
   sym (attached-elsewhere (c .before .before .before .before .before .before .args .names .now) (c .before .before .before .before .before .before .args .homes .now) (c .before .before .before .before .before .before .args .p) (c .before .before .before .before .before .before .args .u) (c .before .before .before .before .find .result)
@@ -32,7 +25,6 @@ returns-2 c = (
   search needs,
 )
 
--- src/users.rt:9:1
 returns-3 : tie.Need-returns-3
 returns-3 c = (
   sym (attached-nowhere (c .before .before .before .before .args .names .now) (c .before .before .before .before .args .homes .now) (c .before .before .before .before .args .p) (c .before .before .before .before .args .u) (c .before .before .find .result)

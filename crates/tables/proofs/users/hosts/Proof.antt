@@ -7,10 +7,6 @@ use Rattle.domain.specs.Tables.{users-of}
 use Rattle.tables.proofs.UserLaws.{Hosting, hosting-start, hosting-step, hosting-end, link-is}
 use Rattle.tables.proofs.users.hosts.Statement.{statement}
 use Rattle.tables.proofs.users.hosts.Tie as tie
-use Rattle.tables.proofs.users.hosts.Reads as reads
-use Rattle.tables.proofs.users.hosts.Lts as lts
-use Rattle.places.proofs.masks.has.Reads as has-reads
-use Rattle.tables.proofs.users.host.Reads as host-reads
 
 abbrev Inv-loop : tie.InvT-loop
 Inv-loop names homes who at m₀ i₀ m i = (i ≤ 64) × (lib.ListN.length homes ≡ 64) × Hosting (users-of names homes) who m i
@@ -18,35 +14,27 @@ Inv-loop names homes who at m₀ i₀ m i = (i ≤ 64) × (lib.ListN.length home
 abbrev μ-loop : tie.MeasureT-loop
 μ-loop names homes who at m₀ i₀ m i = 64 - i
 
--- src/users.rt:40:5
 loop-holds : tie.Need-loop-holds Inv-loop μ-loop
 loop-holds c = (search needs, search needs, hosting-start _ _)
 
--- src/users.rt:41:17
 cast-j : tie.Need-cast-j Inv-loop μ-loop
 cast-j c = search needs
 
--- src/users.rt:42:21
 has-requires : tie.Need-has-requires Inv-loop μ-loop
 has-requires c κs = search needs
 
--- src/users.rt:42:49
 shared-slice-read-host : tie.Need-shared-slice-read-host Inv-loop μ-loop
 shared-slice-read-host c = search needs
 
--- src/users.rt:42:9
 host-requires : tie.Need-host-requires Inv-loop μ-loop
 host-requires c κs = search needs
 
--- src/users.rt:43:9
 add-i : tie.Need-add-i Inv-loop μ-loop
 add-i c = search needs
 
--- src/users.rt:40:5
 loop-less : tie.Need-loop-less Inv-loop μ-loop
 loop-less c = search needs
 
--- src/users.rt:40:5
 loop-again : tie.Need-loop-again Inv-loop μ-loop
 loop-again c = let us = users-of (c .before .before .before .before .before .before .args .names .now) (c .before .before .before .before .before .before .args .homes .now) in (
   search needs,
@@ -55,7 +43,6 @@ loop-again c = let us = users-of (c .before .before .before .before .before .bef
       (hosting-step us (c .before .before .before .before .before .before .args .who) (c .before .before .before .before .loop .m) (c .before .before .before .before .loop .i) (c .before .before .before .before .loop .inv .2)),
 )
 
--- src/users.rt:34:1
 returns : tie.Need-returns Inv-loop μ-loop
 returns c = hosting-end (users-of (c .before .before .before .args .names .now) (c .before .before .before .args .homes .now)) (c .before .before .before .args .who) (c .before .loop .m) (c .before .loop .i) (c .before .loop .inv .2) (omega arith)
 

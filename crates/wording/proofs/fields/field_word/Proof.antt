@@ -6,51 +6,37 @@ use mathlib.Core.Path.{refl}
 use borrow.Author.Needs.{needs}
 use Rattle.wording.proofs.fields.field_word.Statement.{statement}
 use Rattle.wording.proofs.fields.field_word.Tie as tie
-use Rattle.wording.proofs.fields.field_word.Reads as reads
-use Rattle.wording.proofs.fields.field_word.Lts as lts
-use Rattle.wording.proofs.fields.names_of.Reads as names-of-reads
-use Rattle.wording.proofs.fields.word_of.Reads as word-of-reads
 
--- src/fields.rt:80:9
 returns : tie.Need-returns
 returns c = field-none (c .before .args .number) (c .before .args .i) (c .if1 .taken)
 
--- src/fields.rt:82:9
 names-of-requires : tie.Need-names-of-requires
 names-of-requires c κs = search needs
 
--- src/fields.rt:84:14
 word-of-requires : tie.Need-word-of-requires
 word-of-requires c κs = search needs
 
--- src/fields.rt:85:14
 word-of-requires-2 : tie.Need-word-of-requires-2
 word-of-requires-2 c κs = search needs
 
--- src/fields.rt:86:14
 word-of-requires-3 : tie.Need-word-of-requires-3
 word-of-requires-3 c κs = search needs
 
--- src/fields.rt:87:14
 word-of-requires-4 : tie.Need-word-of-requires-4
 word-of-requires-4 c κs = search needs
 
--- src/fields.rt:76:1
 returns-2 : tie.Need-returns-2
 unfolding digitAt
 returns-2 c = field-at (c .before .before .before .before .args .number) (c .before .before .before .before .args .i) 0 (c .before .before .names-of .result) _ _ (c .before .before .before .if1 .left) (c .before .match .keys1) (c .before .before .names-of .ensures) refl (c .word-of .ensures)
 
--- src/fields.rt:76:1
 returns-3 : tie.Need-returns-3
 unfolding digitAt
 returns-3 c = field-at (c .before .before .before .before .args .number) (c .before .before .before .before .args .i) 1 (c .before .before .names-of .result) _ _ (c .before .before .before .if1 .left) (c .before .match .keys2) (c .before .before .names-of .ensures) refl (c .word-of2 .ensures)
 
--- src/fields.rt:76:1
 returns-4 : tie.Need-returns-4
 unfolding digitAt
 returns-4 c = field-at (c .before .before .before .before .args .number) (c .before .before .before .before .args .i) 2 (c .before .before .names-of .result) _ _ (c .before .before .before .if1 .left) (c .before .match .keys3) (c .before .before .names-of .ensures) refl (c .word-of3 .ensures)
 
--- src/fields.rt:76:1
 returns-5 : tie.Need-returns-5
 unfolding digitAt
 returns-5 c = field-at (c .before .before .before .before .args .number) (c .before .before .before .before .args .i) 3 (c .before .before .names-of .result) _ _ (c .before .before .before .if1 .left) (omega arith) (c .before .before .names-of .ensures) refl (c .word-of4 .ensures)

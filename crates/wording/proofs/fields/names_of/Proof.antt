@@ -6,23 +6,17 @@ use mathlib.Core.Path.{sym}
 use borrow.Author.Needs.{needs}
 use Rattle.wording.proofs.fields.names_of.Statement.{statement}
 use Rattle.wording.proofs.fields.names_of.Tie as tie
-use Rattle.wording.proofs.fields.names_of.Reads as reads
-use Rattle.wording.proofs.fields.names_of.Lts as lts
 
--- src/fields.rt:60:9
 returns : tie.Need-returns
 unfolding namesAt named
 returns c = sym (List·getD-eq-default named 0xFFFF (c .if1 .taken))
 
--- src/fields.rt:62:5
 mul-result : tie.Need-mul-result
 mul-result c = search needs
 
--- src/fields.rt:62:5
 array-read-result : tie.Need-array-read-result
 array-read-result c = search needs
 
--- src/fields.rt:56:1
 returns-2 : tie.Need-returns-2
 unfolding namesAt named
 returns-2 c = within-table named (c .before .args .number) 0 0xFFFF (search needs)

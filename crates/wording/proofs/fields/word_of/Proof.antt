@@ -4,19 +4,14 @@ use borrow.Author.Tests.{lt-ltb, le-ltb}
 use borrow.Author.Needs.{needs}
 use Rattle.wording.proofs.fields.word_of.Statement.{statement}
 use Rattle.wording.proofs.fields.word_of.Tie as tie
-use Rattle.wording.proofs.fields.word_of.Reads as reads
-use Rattle.wording.proofs.fields.word_of.Lts as lts
 
--- src/fields.rt:70:9
 returns : tie.Need-returns
 unfolding wordOf
 returns c = simp (lt-ltb _ _ (c .if1 .taken))
 
--- src/fields.rt:72:5
 add-result : tie.Need-add-result
 add-result c = search needs
 
--- src/fields.rt:66:1
 returns-2 : tie.Need-returns-2
 unfolding wordOf
 returns-2 c = simp (le-ltb _ _ (c .if1 .left))

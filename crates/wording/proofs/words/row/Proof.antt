@@ -5,23 +5,17 @@ use Rattle.wording.specs.Letters.{ascii}
 use borrow.Author.Needs.{needs}
 use Rattle.wording.proofs.words.row.Statement.{statement}
 use Rattle.wording.proofs.words.row.Tie as tie
-use Rattle.wording.proofs.words.row.Reads as reads
-use Rattle.wording.proofs.words.row.Lts as lts
 
--- src/words.rt:170:16
 mul-result : tie.Need-mul-result
 mul-result c = search needs
 
--- src/words.rt:170:16
 array-copy-out-result : tie.Need-array-copy-out-result
 array-copy-out-result c = search needs
 
--- src/words.rt:170:9
 returns : tie.Need-returns
 unfolding words padded ascii
 returns c = row-at (c .before .before .args .n) _ (c .before .if1 .taken)
 
--- src/words.rt:166:1
 returns-2 : tie.Need-returns-2
 unfolding padded ascii
 returns-2 c = row-none (c .before .before .before .args .n) (c .before .before .if1 .left)

@@ -4,47 +4,34 @@ use Rattle.streams.proofs.Saying.{says-as}
 use borrow.Author.Needs.{needs}
 use Rattle.wording.proofs.words.say_named.Statement.{statement}
 use Rattle.wording.proofs.words.say_named.Tie as tie
-use Rattle.wording.proofs.words.say_named.Reads as reads
-use Rattle.wording.proofs.words.say_named.Lts as lts
-use Rattle.wording.proofs.words.say_word.Reads as say-word-reads
 
--- src/words.rt:204:9
 say-word-requires : tie.Need-say-word-requires
 say-word-requires c κs = search needs
 
--- src/words.rt:204:9
 same-length : tie.Need-same-length
 same-length c = search needs
 
--- src/words.rt:204:9
 returns : tie.Need-returns
 returns c = let a = c .before .before .before .before .before .before .args in says-as (c .before .before .say-word .ensures) (placed-past (a .group) (a .count) (a .value) (c .before .before .before .before .if1 .taken))
 
--- src/words.rt:207:9
 say-word-requires-2 : tie.Need-say-word-requires-2
 say-word-requires-2 c κs = search needs
 
--- src/words.rt:207:9
 same-length-2 : tie.Need-same-length-2
 same-length-2 c = search needs
 
--- src/words.rt:207:9
 returns-2 : tie.Need-returns-2
 returns-2 c = let a = c .before .before .before .before .before .before .before .args in says-as (c .before .before .say-word2 .ensures) (placed-nowhere (a .group) (a .count) (a .value) (c .before .before .before .before .before .if1 .left) (c .before .before .before .before .if2 .taken))
 
--- src/words.rt:209:27
 add-say-word : tie.Need-add-say-word
 add-say-word c = search needs
 
--- src/words.rt:209:5
 say-word-requires-3 : tie.Need-say-word-requires-3
 say-word-requires-3 c κs = search needs
 
--- src/words.rt:200:1
 same-length-3 : tie.Need-same-length-3
 same-length-3 c = search needs
 
--- src/words.rt:200:1
 returns-3 : tie.Need-returns-3
 returns-3 c = let a = c .before .before .before .before .before .before .before .args in says-as (c .before .before .say-word3 .ensures) (placed-at (a .group) (a .count) (a .value) (c .before .before .before .before .before .if1 .left) (c .before .before .before .before .if2 .left))
 

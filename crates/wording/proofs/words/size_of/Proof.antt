@@ -5,8 +5,6 @@ use Rattle.wording.proofs.WordLaws.{Fronting, front-start, front-dot, f
 use borrow.Author.Needs.{needs}
 use Rattle.wording.proofs.words.size_of.Statement.{statement}
 use Rattle.wording.proofs.words.size_of.Tie as tie
-use Rattle.wording.proofs.words.size_of.Reads as reads
-use Rattle.wording.proofs.words.size_of.Lts as lts
 
 abbrev Inv-loop : tie.InvT-loop
 Inv-loop row i₀ i = Fronting row i
@@ -14,31 +12,24 @@ Inv-loop row i₀ i = Fronting row i
 abbrev μ-loop : tie.MeasureT-loop
 μ-loop row i₀ i = length row - i
 
--- src/words.rt:180:5
 loop-holds : tie.Need-loop-holds Inv-loop μ-loop
 loop-holds c = front-start
 
--- src/words.rt:181:12
 shared-slice-read-if1 : tie.Need-shared-slice-read-if1 Inv-loop μ-loop
 shared-slice-read-if1 c = search needs
 
--- src/words.rt:182:13
 returns : tie.Need-returns Inv-loop μ-loop
 returns c = front-dot (c .before .before .before .loop .inv) (c .before .before .loop-test .taken) (c .if1 .taken)
 
--- src/words.rt:184:9
 add-i : tie.Need-add-i Inv-loop μ-loop
 add-i c = search needs
 
--- src/words.rt:180:5
 loop-less : tie.Need-loop-less Inv-loop μ-loop
 loop-less c = search needs
 
--- src/words.rt:180:5
 loop-again : tie.Need-loop-again Inv-loop μ-loop
 loop-again c = front-more (c .before .before .before .loop .inv) (c .before .before .loop-test .taken) (c .if1 .left)
 
--- src/words.rt:176:1
 returns-2 : tie.Need-returns-2 Inv-loop μ-loop
 returns-2 c = front-end (c .before .loop .inv) (c .loop-test .left)
 
