@@ -1,5 +1,6 @@
 /* The same events through the proved provider and through the plain one: every reply, count and octet sent is compared; then each is timed, and the stack that it touches is measured. */
 #define _GNU_SOURCE
+#include "ladlestorm.h"
 #include "plain.h"
 #include <pthread.h>
 #include <stdint.h>
@@ -9,30 +10,10 @@
 #include <sys/mman.h>
 #include <time.h>
 
-/* The proved provider's columns, as crates/measured lends them. */
-static struct columns {
-    uint16_t links;
-    uint16_t names[64];
-    uint8_t homes[64];
-    uint16_t ids[128];
-    uint8_t roles[128], chairs[128];
-    uint64_t guests[128];
-    uint16_t marks[128];
-    uint16_t keys[64];
-    uint8_t modes[64];
-    uint64_t values[64];
-} ours;
-#define COLUMNS uint16_t *, uint16_t *, uint8_t *, uint16_t *, uint8_t *, uint8_t *, uint64_t *, uint16_t *, uint16_t *, uint8_t *, uint64_t *
-#define LENT &ours.links, ours.names, ours.homes, ours.ids, ours.roles, ours.chairs, ours.guests, ours.marks, ours.keys, ours.modes, ours.values
-uint32_t begin_domain(COLUMNS);
-uint32_t open_link(uint16_t *links, uint8_t p);
-uint32_t lose_link(COLUMNS, uint8_t p, uint8_t *room, size_t length);
-uint32_t hear_message(COLUMNS, uint8_t p, const uint8_t *octets, size_t length, uint8_t *room, size_t rooms);
+static struct ladlestorm_domain ours;
 uint32_t read_message(const uint8_t *octets, size_t length, uint32_t *values, uint16_t *list);
 uint32_t read_many(const uint8_t *octets, size_t length, uint32_t rounds);
 uint32_t write_many(uint8_t *room, size_t length, uint32_t number, uint32_t rounds);
-uint32_t compose_many(uint8_t *room, size_t length, uint32_t rounds);
-uint32_t pass_many(const uint8_t *grab, size_t grabs, const uint8_t *release, size_t releases, uint32_t rounds);
 
 static struct plain plain;
 
@@ -51,12 +32,14 @@ static uint32_t rounds = 1000;
 /* An event through each provider: the octets sent, and the reply in the last octet. */
 static inline uint32_t by_ours(const struct event *e, size_t room)
 {
+    struct ladlestorm_answered a = {0, 0};
     switch (e->kind) {
-    case 0: return open_link(&ours.links, e->link);
-    case 1: return lose_link(LENT, e->link, our_room, room);
-    case 2: return hear_message(LENT, e->link, e->octets, e->length, our_room, room);
-    default: return begin_domain(LENT);
+    case 0: a.reply = ladlestorm_open(&ours, e->link); break;
+    case 1: a = ladlestorm_lose(&ours, e->link, our_room, room); break;
+    case 2: a = ladlestorm_message(&ours, e->link, e->octets, e->length, our_room, room); break;
+    default: a.reply = ladlestorm_start(&ours, 128, 64, 64);
     }
+    return (uint32_t)a.sent * 256 + a.reply;
 }
 
 static inline uint32_t by_plain(const struct event *e, size_t room)
@@ -105,7 +88,7 @@ static void compare(void)
 {
     size_t octets = 0, replies[12] = {0};
     for (size_t i = 0; i < count; i++) {
-        struct columns before = ours;
+        struct ladlestorm_domain before = ours;
         struct plain kept = plain;
         memset(our_room, 0x5A, ROOM);
         memset(plain_room, 0x5A, ROOM);
@@ -163,8 +146,31 @@ static void our_detach(void) { sink = read_many(detach, sizeof detach, rounds); 
 static void plain_detach(void) { sink = plain_read_many(detach, sizeof detach, rounds); }
 static void our_write(void) { sink = write_many(room, sizeof room, 30, rounds); }
 static void plain_write_checked(void) { sink = plain_write_many(room, sizeof room, 30, rounds); }
-static void our_pass(void) { sink = pass_many(first_grab, sizeof first_grab, first_release, sizeof first_release, rounds); }
-static void plain_pass(void) { sink = plain_pass_many(first_grab, sizeof first_grab, first_release, sizeof first_release, rounds); }
+
+/* A domain with one user, who grabs a token and releases it. */
+static const uint8_t attach[] = {0x28}; /* AUrq */
+static const struct event passing[] = {{START, 0, 0, 0}, {0, 0, 0, 0}, {2, 0, attach, 1}, {2, 0, first_grab, 5}, {2, 0, first_release, 5}};
+
+static void our_pass(void)
+{
+    uint32_t sum = 0;
+    for (int i = 0; i < 3; i++)
+        sum += by_ours(&passing[i], ROOM);
+    for (uint32_t k = 0; k < rounds; k++)
+        sum += by_ours(&passing[3], ROOM) + by_ours(&passing[4], ROOM);
+    sink = sum;
+}
+
+static void plain_pass(void)
+{
+    uint32_t sum = 0;
+    for (int i = 0; i < 3; i++)
+        sum += by_plain(&passing[i], ROOM);
+    for (uint32_t k = 0; k < rounds; k++)
+        sum += by_plain(&passing[3], ROOM) + by_plain(&passing[4], ROOM);
+    sink = sum;
+}
+
 static void nothing(void) {}
 
 static double now(void)

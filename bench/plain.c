@@ -897,7 +897,7 @@ int plain_message(struct plain *d, u32 p, const octet *s, size n, octet *out, si
     }
 }
 
-/* Loops for the timing of the codec, and of a grab and a release. The barriers keep the compiler from doing one round for all. */
+/* Loops for the timing of the codec. The barriers keep the compiler from doing one round for all. */
 static inline void barrier(void *p) { __asm__ volatile("" : : "r"(p) : "memory"); }
 
 u32 plain_read_many(const octet *s, size n, u32 rounds)
@@ -921,25 +921,6 @@ u32 plain_write_many(octet *s, size room, u32 number, u32 rounds)
         int r = plain_write_confirm(s, room, number, 9, 1007, rounds % 65535 + 1, 2, &n);
         sum += r ? (u32)r : (u32)n;
         barrier(s);
-    }
-    return sum;
-}
-
-u32 plain_pass_many(const octet *grab, size grabs, const octet *release, size releases, u32 rounds)
-{
-    struct plain d;
-    octet out[64], attach_user = AUrq << 2;
-    size sent;
-    plain_start(&d, MAX_CHANNELS, MAX_USERS, MAX_TOKENS);
-    plain_open(&d, 0);
-    plain_message(&d, 0, &attach_user, 1, out, sizeof out, &sent);
-    u32 sum = (u32)sent;
-    while (rounds--) {
-        plain_message(&d, 0, grab, grabs, out, sizeof out, &sent);
-        sum += (u32)sent;
-        plain_message(&d, 0, release, releases, out, sizeof out, &sent);
-        sum += (u32)sent;
-        barrier(&d);
     }
     return sum;
 }

@@ -49,5 +49,4 @@ size plain_confirm(octet *s, u32 number, u32 result, u32 user, u32 token, u32 st
 u32 plain_read_many(const octet *s, size n, u32 rounds);
 int plain_write_confirm(octet *s, size room, u32 number, u32 result, u32 user, u32 token, u32 status, size *n);
 u32 plain_write_many(octet *s, size room, u32 number, u32 rounds);
-u32 plain_pass_many(const octet *grab, size grabs, const octet *release, size releases, u32 rounds);
 #endif

@@ -1,5 +1,6 @@
 /* Times reading and writing a token message, and a grab and a release by the provider, with the stack that they touch. Least processor time of many tries. */
 #define _GNU_SOURCE
+#include "ladlestorm.h"
 #include <pthread.h>
 #include <stdint.h>
 #include <stdio.h>
@@ -10,22 +11,42 @@
 
 uint32_t read_many(const uint8_t *octets, size_t length, uint32_t rounds);
 uint32_t write_many(uint8_t *room, size_t length, uint32_t number, uint32_t rounds);
-uint32_t pass_many(const uint8_t *grab, size_t grabs, const uint8_t *release, size_t releases, uint32_t rounds);
 
 static const uint8_t grab[] = {0x74, 0x00, 0x06, 0x00, 0x00};
 static const uint8_t first_grab[] = {0x74, 0x00, 0x00, 0x00, 0x00};    /* TGrq by 1001 for token 1 */
 static const uint8_t first_release[] = {0x9C, 0x00, 0x00, 0x00, 0x00}; /* TRrq */
 static const uint8_t confirm[] = {0x7A, 0x40, 0x00, 0x06, 0x00, 0x00, 0x40};
 static uint8_t detach[131] = {0x30, 0x00, 0x40}; /* DUrq of 64 ids, all 1001 */
-static uint8_t room[16];
+static const uint8_t attach[] = {0x28}; /* AUrq */
+static uint8_t room[64];
+static struct ladlestorm_domain domain;
 static volatile uint32_t sink;
 static uint32_t rounds = 1000;
 
 static void read_grab(void) { sink = read_many(grab, sizeof grab, rounds); }
 static void read_confirm(void) { sink = read_many(confirm, sizeof confirm, rounds); }
 static void read_detach(void) { sink = read_many(detach, sizeof detach, rounds); }
-static void write_confirm(void) { sink = write_many(room, sizeof room, 30, rounds); }
-static void pass(void) { sink = pass_many(first_grab, sizeof first_grab, first_release, sizeof first_release, rounds); }
+static void write_confirm(void) { sink = write_many(room, 16, 30, rounds); }
+
+/* The user grabs the token and releases it. */
+static void pass(void)
+{
+    size_t sum = 0;
+    for (uint32_t i = 0; i < rounds; i++) {
+        sum += ladlestorm_message(&domain, 0, first_grab, sizeof first_grab, room, sizeof room).sent;
+        sum += ladlestorm_message(&domain, 0, first_release, sizeof first_release, room, sizeof room).sent;
+    }
+    sink = (uint32_t)sum;
+}
+
+/* A domain with one user on connection 0. */
+static void begin(void)
+{
+    ladlestorm_start(&domain, 128, 64, 64);
+    ladlestorm_open(&domain, 0);
+    ladlestorm_message(&domain, 0, attach, sizeof attach, room, sizeof room);
+}
+
 static void nothing(void) {}
 
 static double now(void)
@@ -87,6 +108,7 @@ int main(void)
     report("read TGcf", read_confirm);
     report("read DUrq of 64 ids", read_detach);
     report("write TGcf", write_confirm);
+    begin();
     report("grab and release", pass);
     return 0;
 }

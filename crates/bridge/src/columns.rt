@@ -7,7 +7,8 @@ ghost use Rattle.domain.specs.Tables.{Domain, channels-of, domain-of};
 ghost use Rattle.domain.specs.Numbers.{replyNumber};
 ghost use Rattle.domain.specs.Effects.{settled};
 ghost use Rattle.domain.specs.Events.{opens, loses, hears};
-ghost use Rattle.provider.specs.Provider.{understood, limited, begun, after, audience as audienceOf};
+ghost use Rattle.reception.specs.Reception.{limited, begun, after, audience as audienceOf};
+ghost use Rattle.provider.specs.Provider.{understood};
 use crate::Answered;
 use domain::Limits;
 use domain::answer::Answer;
@@ -41,7 +42,7 @@ pub fn start<'a>(
         (begun «most_channels» «most_users» «most_tokens» (domain-of (limited (now (channels .entry)) (now (users .entry)) (now (tokens .entry))) (now (links .entry)) (now (names .entry)) (now (homes .entry)) (now (ids .entry)) (now (roles .entry))
         (now (chairs .entry)) (now (guests .entry)) (now (marks .entry)) (now (keys .entry)) (now (modes .entry)) (now (values .entry)))) ⌝ }
 {
-    let s = provider::starting::start(
+    let s = reception::starting::start(
         most_channels,
         most_users,
         most_tokens,
@@ -91,7 +92,7 @@ pub fn open<'a>(
         ≡ after (domain-of (limited (now (channels .entry)) (now (users .entry)) (now (tokens .entry))) (now (links .entry)) (now (names .entry)) (now (homes .entry)) (now (ids .entry)) (now (roles .entry))
         (now (chairs .entry)) (now (guests .entry)) (now (marks .entry)) (now (keys .entry)) (now (modes .entry)) (now (values .entry))) (opens p) out) ⌝ }
 {
-    let reply = provider::starting::open(links, p);
+    let reply = reception::starting::open(links, p);
     reply_number(reply) as u32
 }
 
@@ -209,19 +210,19 @@ pub fn audience<'a>(
 ) -> u32
     ensures { λ r. ⌜ r ≡ audienceOf (channels-of (now (ids .entry)) (now (roles .entry)) (now (chairs .entry)) (now (guests .entry)) (now (marks .entry))) c ⌝ }
 {
-    provider::asking::audience(ids, roles, chairs, guests, marks, c)
+    reception::asking::audience(ids, roles, chairs, guests, marks, c)
 }
 
 // Users or tokens in use, by the column of their ids.
 pub fn used_of_64<'a>(ids: &'a [u16; 64]) -> usize
     ensures { λ r. ⌜ r ≡ used (now (ids .entry)) ⌝ }
 {
-    provider::asking::in_use(ids)
+    reception::asking::in_use(ids)
 }
 
 // Channels in use, by the column of their ids.
 pub fn used_of_128<'a>(ids: &'a [u16; 128]) -> usize
     ensures { λ r. ⌜ r ≡ used (now (ids .entry)) ⌝ }
 {
-    provider::asking::in_use(ids)
+    reception::asking::in_use(ids)
 }

@@ -12,8 +12,9 @@ use Rattle.domain.specs.Numbers.{replyNumber}
 use Rattle.domain.specs.Tables.{Channels, Domain, channel-cells, token-cells, domain-of, fresh, put-links}
 use Rattle.domain.specs.Effects.{Settled, settled, answered}
 use Rattle.domain.specs.Events.{opens, loses, hears}
-use Rattle.provider.specs.declared.starting.Started.{Started}
-use Rattle.provider.specs.Provider.{understood, after, limited, begun, audience}
+use Rattle.reception.specs.declared.starting.Started.{Started}
+use Rattle.reception.specs.Reception.{after, limited, begun, audience}
+use Rattle.provider.specs.Provider.{understood}
 use Rattle.provider.proofs.Replies.{same-reply, one-outcome}
 
 -- the columns that are lent

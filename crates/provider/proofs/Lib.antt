@@ -1,7 +1,4 @@
--- What a function answers, as one event: rooms and connections, RJum, limits, octets.
-pub mod Turning
-pub mod Rejecting
-pub mod Limiting
+-- Octets, replies and the room that they take.
 pub mod Understanding
 pub mod Replies
 pub mod Room

@@ -1,16 +1,14 @@
 // The provider: every event on every connection, with any octets and any room for answers. The tables are lent as columns of numbers; any
 // contents are taken.
-mod answers;
-pub mod asking;
 mod reading;
-pub mod starting;
 
 ghost use mathlib.Core.Path.{_≡_};
 ghost use Rattle.domain.specs.declared.Limits.{Limits};
 ghost use Rattle.domain.specs.Tables.{domain-of};
 ghost use Rattle.domain.specs.Effects.{answered};
 ghost use Rattle.domain.specs.Events.{loses, hears};
-ghost use Rattle.provider.specs.Provider.{understood, after};
+ghost use Rattle.reception.specs.Reception.{after};
+ghost use Rattle.provider.specs.Provider.{understood};
 use domain::answer::Answer;
 use domain::numbers::Reply;
 
@@ -36,7 +34,7 @@ pub fn lose(
         (now (chairs .entry)) (now (guests .entry)) (now (marks .entry)) (now (keys .entry)) (now (modes .entry)) (now (values .entry))) (loses p) (now (out .entry))) ⌝ }
 {
     let open = *links;
-    if !answers::is_open(open, p) {
+    if !reception::refusing::is_open(open, p) {
         return Answer {
             reply: Reply::NotOpen,
             sent: 0,
@@ -83,7 +81,7 @@ pub fn message(
         (now (chairs .entry)) (now (guests .entry)) (now (marks .entry)) (now (keys .entry)) (now (modes .entry)) (now (values .entry))) (hears p (understood (now (octets .entry)))) (now (out .entry)) ⌝ }
 {
     let open = *links;
-    if !answers::is_open(open, p) {
+    if !reception::refusing::is_open(open, p) {
         return Answer {
             reply: Reply::NotOpen,
             sent: 0,
@@ -92,7 +90,7 @@ pub fn message(
     let u = reading::understand(octets);
     let reply = u.reply;
     if domain::numbers::reply_number(reply) != 0 {
-        return answers::refuse(p, reply, octets, out);
+        return reception::refusing::refuse(p, reply, octets, out);
     }
     let listed = u.listed;
     requests::request(

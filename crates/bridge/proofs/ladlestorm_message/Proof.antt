@@ -36,7 +36,8 @@ use denote.Triple.Walked.{Stays, stay-ref, walkOf, goes-ref, walked, walk-meets}
 use denote.Signature.{plain}
 use Rattle.domain.specs.Effects.{settled}
 use Rattle.domain.specs.Events.{hears}
-use Rattle.provider.specs.Provider.{after, understood}
+use Rattle.reception.specs.Reception.{after}
+use Rattle.provider.specs.Provider.{understood}
 use Rattle.bridge.specs.Held.{domain-in}
 use Rattle.bridge.specs.declared.Answered.{Answered}
 use Rattle.bridge.specs.declared.Domain.{Domain}

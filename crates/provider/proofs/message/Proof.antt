@@ -1,7 +1,7 @@
 use mathlib.Core.Path.{sym, _∙_}
 use Rattle.provider.specs.Provider.{understood}
 use Rattle.provider.specs.Readings.{requested}
-use Rattle.provider.proofs.Turning.{not-true, not-false, shut-hears, open-served, open-refused}
+use Rattle.reception.proofs.Turning.{not-true, not-false, shut-hears, open-served, open-refused}
 use Rattle.provider.proofs.Understanding.{refused-asks, requested-asks}
 use borrow.Author.Needs.{needs}
 use Rattle.provider.proofs.message.Statement.{statement}

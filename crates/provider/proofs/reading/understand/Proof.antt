@@ -1,6 +1,6 @@
 use native.Mathlib.Omega.{arith}
 use Rattle.messages.proofs.Refusals.{bytes-at}
-use Rattle.provider.proofs.Turning.{not-true, not-false}
+use Rattle.reception.proofs.Turning.{not-true, not-false}
 use mathlib.Core.Path.{refl, sym, ap, _∙_}
 use Rattle.domain.specs.Numbers.{replyNumber}
 use Rattle.provider.specs.Provider.{number-in}

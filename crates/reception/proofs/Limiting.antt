@@ -10,7 +10,7 @@ use Rattle.domain.specs.declared.channel.Channel.{Channel}
 use Rattle.domain.specs.Cells.{no-channel}
 use Rattle.domain.specs.Tables.{in-range}
 use Rattle.domain.proofs.invariant.Sound.{limits-le}
-use Rattle.provider.specs.Provider.{limited, audience}
+use Rattle.reception.specs.Reception.{limited, audience}
 
 pub in-range-most : (b : Bool) (channels users tokens : ℕ) → b ≡ in-range (limited channels users tokens) → b ≡ true → (channels ≤ 128) × (users ≤ 64) × (tokens ≤ 64)
 in-range-most b channels users tokens e h = limits-le (limited channels users tokens) (sym e ∙ h)

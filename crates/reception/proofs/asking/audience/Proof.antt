@@ -1,8 +1,8 @@
 use Rattle.places.proofs.Answers.{find-at, find-nowhere}
-use Rattle.provider.proofs.Limiting.{audience-at, audience-none}
+use Rattle.reception.proofs.Limiting.{audience-at, audience-none}
 use borrow.Author.Needs.{needs}
-use Rattle.provider.proofs.asking.audience.Statement.{statement}
-use Rattle.provider.proofs.asking.audience.Tie as tie
+use Rattle.reception.proofs.asking.audience.Statement.{statement}
+use Rattle.reception.proofs.asking.audience.Tie as tie
 
 find-requires : tie.Need-find-requires
 find-requires c κs = search needs

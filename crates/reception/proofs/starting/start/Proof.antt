@@ -1,12 +1,12 @@
 use mathlib.Core.Path.{refl, sym, _∙_}
 use native.Mathlib.Omega.{arith}
 use Rattle.domain.specs.Tables.{fresh, channel-cells, token-cells}
-use Rattle.provider.specs.Provider.{begun}
-use Rattle.provider.proofs.Turning.{not-true, not-false}
-use Rattle.provider.proofs.Limiting.{in-range-most}
+use Rattle.reception.specs.Reception.{begun}
+use Rattle.reception.proofs.Turning.{not-true, not-false}
+use Rattle.reception.proofs.Limiting.{in-range-most}
 use borrow.Author.Needs.{needs}
-use Rattle.provider.proofs.starting.start.Statement.{statement}
-use Rattle.provider.proofs.starting.start.Tie as tie
+use Rattle.reception.proofs.starting.start.Statement.{statement}
+use Rattle.reception.proofs.starting.start.Tie as tie
 
 in-range-requires : tie.Need-in-range-requires
 in-range-requires c κs = search needs

@@ -2,7 +2,7 @@
 ghost use mathlib.Core.Path.{_≡_};
 ghost use Rattle.places.specs.Places.{used};
 ghost use Rattle.domain.specs.Tables.{channels-of};
-ghost use Rattle.provider.specs.Provider.{audience as audienceOf};
+ghost use Rattle.reception.specs.Reception.{audience as audienceOf};
 
 // A channel's audience: the number of connections joined, 0 if it is not in use.
 pub fn audience(

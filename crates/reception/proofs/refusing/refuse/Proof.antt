@@ -1,8 +1,8 @@
 use mathlib.Core.Path.{sym, _∙_}
-use Rattle.provider.proofs.Rejecting.{complains-bad, complains-forbidden, complains-none}
+use Rattle.reception.proofs.Rejecting.{complains-bad, complains-forbidden, complains-none}
 use borrow.Author.Needs.{needs}
-use Rattle.provider.proofs.answers.refuse.Statement.{statement}
-use Rattle.provider.proofs.answers.refuse.Tie as tie
+use Rattle.reception.proofs.refusing.refuse.Statement.{statement}
+use Rattle.reception.proofs.refusing.refuse.Tie as tie
 
 reply-number-requires : tie.Need-reply-number-requires
 reply-number-requires c κs = search needs

@@ -1,8 +1,8 @@
 use mathlib.Core.Path.{sym, _∙_}
-use Rattle.provider.proofs.Turning.{opens-none, opens-again, opens-done}
+use Rattle.reception.proofs.Turning.{opens-none, opens-again, opens-done}
 use borrow.Author.Needs.{needs}
-use Rattle.provider.proofs.starting.open.Statement.{statement}
-use Rattle.provider.proofs.starting.open.Tie as tie
+use Rattle.reception.proofs.starting.open.Statement.{statement}
+use Rattle.reception.proofs.starting.open.Tie as tie
 
 returns : tie.Need-returns
 returns c = λ d out. opens-none d _ _ out (c .if1 .taken)

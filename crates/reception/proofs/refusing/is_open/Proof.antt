@@ -1,9 +1,9 @@
 use mathlib.Core.Path.{refl}
 use borrow.Author.Tests.{lt-ltb, le-ltb}
-use Rattle.provider.proofs.Turning.{not-not}
+use Rattle.reception.proofs.Turning.{not-not}
 use borrow.Author.Needs.{needs}
-use Rattle.provider.proofs.answers.is_open.Statement.{statement}
-use Rattle.provider.proofs.answers.is_open.Tie as tie
+use Rattle.reception.proofs.refusing.is_open.Statement.{statement}
+use Rattle.reception.proofs.refusing.is_open.Tie as tie
 
 returns : tie.Need-returns
 returns c = rw (lt-ltb 15 (c .before .args .p) (c .if1 .taken)) refl

@@ -6,7 +6,7 @@ ghost use Rattle.domain.specs.Numbers.{replyNumber};
 ghost use Rattle.domain.specs.Tables.{Domain, domain-of, put-links, between, in-range};
 ghost use Rattle.domain.specs.Effects.{settled};
 ghost use Rattle.domain.specs.Events.{opens};
-ghost use Rattle.provider.specs.Provider.{limited, begun, after};
+ghost use Rattle.reception.specs.Reception.{limited, begun, after};
 use domain::Limits;
 use domain::numbers::Reply;
 

@@ -14,7 +14,7 @@ use Rattle.domain.specs.Tables.{Domain, put-links, grant}
 use Rattle.domain.specs.Effects.{Effect, ignored, done, Settled, settled, sends, settle}
 use Rattle.domain.specs.Leaving.{close}
 use Rattle.domain.specs.Events.{Reading, opens, loses, hears, stays, sends as sends-of, ends, complaint, answers, step-with, step, Outcome}
-use Rattle.provider.specs.Provider.{turned, after}
+use Rattle.reception.specs.Reception.{turned, after}
 
 pub not-not : (b : Bool) → b ≡ not (not b)
 not-not true = refl

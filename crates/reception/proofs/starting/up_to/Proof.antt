@@ -2,8 +2,8 @@ use borrow.Author.Needs.{needs}
 use mathlib.Core.Path.{refl}
 use borrow.Author.Tests.{lt-leb, le-leb}
 use Rattle.domain.specs.Tables.{between}
-use Rattle.provider.proofs.starting.up_to.Statement.{statement}
-use Rattle.provider.proofs.starting.up_to.Tie as tie
+use Rattle.reception.proofs.starting.up_to.Statement.{statement}
+use Rattle.reception.proofs.starting.up_to.Tie as tie
 
 returns : tie.Need-returns
 unfolding between

@@ -1,9 +1,9 @@
 use mathlib.Core.Path.{refl, sym, _∙_}
 use Rattle.domain.specs.Tables.{in-range}
-use Rattle.provider.proofs.Turning.{not-true, not-false}
+use Rattle.reception.proofs.Turning.{not-true, not-false}
 use borrow.Author.Needs.{needs}
-use Rattle.provider.proofs.starting.in_range.Statement.{statement}
-use Rattle.provider.proofs.starting.in_range.Tie as tie
+use Rattle.reception.proofs.starting.in_range.Statement.{statement}
+use Rattle.reception.proofs.starting.in_range.Tie as tie
 
 up-to-requires : tie.Need-up-to-requires
 up-to-requires c κs = search needs

@@ -1,9 +1,9 @@
 use mathlib.Core.Path.{refl}
 use native.Mathlib.Omega.{arith}
-use Rattle.provider.proofs.Rejecting.{rejection-inside, rejection-count, rejection-few, rejection-full, rejection-sent}
+use Rattle.reception.proofs.Rejecting.{rejection-inside, rejection-count, rejection-few, rejection-full, rejection-sent}
 use borrow.Author.Needs.{needs}
-use Rattle.provider.proofs.answers.reject.Statement.{statement}
-use Rattle.provider.proofs.answers.reject.Tie as tie
+use Rattle.reception.proofs.refusing.reject.Statement.{statement}
+use Rattle.reception.proofs.refusing.reject.Tie as tie
 
 slice-aggregate-reject : tie.Need-slice-aggregate-reject
 slice-aggregate-reject c = search needs
