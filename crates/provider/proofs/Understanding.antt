@@ -4,22 +4,26 @@ use mathlib.Core.Bool.{Bool, true, false, not, cond, _&&_, _||_}
 use mathlib.Core.List.{List, [], _∷_, _++_}
 use Prim.Native.Nat.{ℕ, _-_, _/_, _%_, _≤_, _<_}
 use native.Mathlib.Omega.{arith}
-use borrow.Author.Tests.{lt-ltb, le-ltb, le-leb, lt-leb, eqb-true, ne-eqb}
+use borrow.Author.Tests.{lt-ltb, le-ltb, le-leb, lt-leb, ltb-true, ltb-false, leb-true, eqb-true, ne-eqb}
 use lib.Dec.{eqb, leb, ltb}
-use lib.ListN.{length, getD, take, replicate}
+use lib.ListN.{length, getD, take, replicate, List·getD-eq-default}
 use lib.Seq.{take-at}
 use Rattle.places.specs.Sets.{if_then_else_}
 use Rattle.octets.specs.Octets.{Bytes}
-use Rattle.messages.specs.Messages.{may-go-up, is-served, entry}
+use Rattle.octets.proofs.OctetLaws.{both-left, both-right}
+use Rattle.messages.specs.Messages.{Way, down, up, served, goesUp, isServed, unknown, table, entry, may-go-up, is-served}
 use Rattle.messages.specs.Columns.{packed, packedAt, tailAt}
-use Rattle.messages.specs.Codec.{Msg, Outcome, ok, refuse, sized, decode}
+use Rattle.messages.specs.Codec.{Msg, Outcome, ok, refuse, ending, readMsg, sized, decode}
 use Rattle.messages.specs.Named.{Message, EDrq, DPum, RJum, AUrq, AUcf, DUrq, DUin, CJrq, CJcf, CLrq, CCrq, CCcf, CDrq, CDin, CArq, CAin, CErq, CEin}
 use Rattle.messages.specs.Named.{TGrq, TGcf, TIrq, TIcf, TVrq, TVin, TVrs, TVcf, TPrq, TPin, TRrq, TRcf, TTrq, TTcf}
 use Rattle.messages.specs.Named.{fields, formed, heard}
+use Rattle.messages.proofs.CodecLaws.{taken}
 use Rattle.messages.proofs.NamedLaws.{ranges, read-named, heard-formed, refused-heard}
 use Rattle.messages.proofs.Refusals.{refusal, refusals, number-read}
 use Rattle.reader.specs.Held.{padded, isString, noMessage, decoded}
 use Rattle.reader.specs.declared.Decoded.{Decoded}
+use Rattle.reader.specs.declared.short.Short.{Short}
+use Rattle.reader.specs.Shortly.{in-full, Shortly}
 use Rattle.reader.proofs.HeldLaws.{unlike}
 use Rattle.domain.specs.Numbers.{replyNumber}
 use Rattle.domain.specs.Tables.{Domain}
@@ -28,7 +32,7 @@ use Rattle.domain.specs.Events.{Reading, reads, refuses, act, answers, ends, se
 use Rattle.provider.specs.declared.reading.Understood.{Understood}
 use Rattle.provider.specs.Provider.{number-in, read-as, understood}
 use Rattle.requests.specs.Requests.{token-request, private-request, channel-request, user-request, request}
-use Rattle.provider.specs.Readings.{reply-for, requested, asks, Understands, Asked}
+use Rattle.provider.specs.Readings.{reply-for, requested, asks, Understands, Requests, Asked}
 
 -- ---- the tests, in their order
 module _ (os : List ℕ) where
@@ -60,9 +64,10 @@ module _ (os : List ℕ) where
         read-understood h = rw (lt-ltb 0 (length os) some, le-leb (length os) 1024 few, le-ltb 42 (number-in os) known, up, h) refl
 
 -- ---- a refusal
-pub refuses-asks : (os : List ℕ) (n : ℕ) (u : Understood) → understood os ≡ refuses n os → replyNumber (u .reply) ≡ n → eqb n 0 ≡ false → Understands os u
+pub refuses-asks : (os : List ℕ) (n : ℕ) (u : Understood) (listed : List ℕ) → understood os ≡ refuses n os → replyNumber (u .reply) ≡ n → eqb n 0 ≡ false
+    → Understands os u listed
 unfolding answers asks
-refuses-asks os n u e r z new d p room = rw (e, r, z) refl
+refuses-asks os n u listed e r z new d p room = rw (e, r, z) refl
 
 pub reply-for-is : (n : ℕ) → refusal n ≡ true → reply-for n ≡ n
 unfolding refusal reply-for
@@ -166,44 +171,82 @@ unfolding number-in decode
 number-is [] x e = absurd (let z : _≡_ {A = ℕ} 0 1 = cc in omega arith)
 number-is (o ∷ os) x e = number-read o os x e
 
-requested-is : (os : List ℕ) (m : Message) (dec : Decoded) (u : Understood) → dec ≡ decoded os (ok (fields m)) → Asked dec u → requested u ≡ request-of m
-unfolding requested request-of value-of list-of decoded
-requested-is os m dec u e a = rw (a .number, a .first, a .second, a .third, a .count, a .listed, e) refl
+-- the ids that the code lists are those of the message read
+unfoldable pub Lists : Decoded → List ℕ → Type 0
+Lists dec listed = take (dec .count) listed ≡ take (dec .count) (dec .ids)
 
-served-asks : (os : List ℕ) (m : Message) (dec : Decoded) (u : Understood) → dec ≡ decoded os (ok (fields m)) → Asked dec u
-    → formed m ≡ true → is-served (fields m .number) ≡ true → understood os ≡ reads m → Understands os u
-unfolding answers asks
-served-asks os m dec u e a f s i new d p room =
-    rw (i, a .done) (ap (λ (x : Effect Domain). ends d room x) (sym (ap (act new d p) (requested-is os m dec u e a) ∙ request-act new d p m f s)))
+module _ (os : List ℕ) (dec : Decoded) (u : Understood) (a : Asked dec u) (listed : List ℕ) (l : Lists dec listed) where
+  requested-is : (m : Message) → dec ≡ decoded os (ok (fields m)) → requested u listed ≡ request-of m
+  unfolding requested request-of value-of list-of decoded Lists
+  requested-is m e = rw (a .number-is, a .first-is, a .second-is, a .third-is, a .count-is, l, e) refl
 
-module _ (os : List ℕ) (dec : Decoded) (e : dec ≡ decoded os (decode os)) (u : Understood) (i : understood os ≡ read-as os (heard os)) where
-  pub asked-asks : Bytes os → dec .ok ≡ true → Asked dec u → is-served (number-in os) ≡ true → Understands os u
+  served-asks : (m : Message) → dec ≡ decoded os (ok (fields m)) → formed m ≡ true → is-served (fields m .number) ≡ true → understood os ≡ reads m → Understands os u listed
+  unfolding answers asks
+  served-asks m e f s i new d p room =
+      rw (i, a .done) (ap (λ (x : Effect Domain). ends d room x) (sym (ap (act new d p) (requested-is m e) ∙ request-act new d p m f s)))
+
+  pub asked-asks : dec ≡ decoded os (decode os) → understood os ≡ read-as os (heard os) → Bytes os → dec .ok ≡ true → is-served (number-in os) ≡ true → Understands os u listed
   unfolding decoded noMessage read-as
-  asked-asks y k a s = go (decode os) refl
+  asked-asks e i y k s = go (decode os) refl
     where
-      go : (o : Outcome Msg) → decode os ≡ o → Understands os u
+      go : (o : Outcome Msg) → decode os ≡ o → Understands os u listed
       go (ok x) f = read-named os y x f λ m is same.
-          served-asks os m dec u (e ∙ ap (decoded os) (f ∙ ap ok (sym same))) a (heard-formed os y m is)
+          served-asks m (e ∙ ap (decoded os) (f ∙ ap ok (sym same))) (heard-formed os y m is)
           (ap is-served (ap (λ (z : Msg). z .number) same ∙ number-is os x f) ∙ s) (i ∙ ap (read-as os) is)
       go (refuse n) f = absurd (unlike (sym (ap (λ (z : Decoded). z .ok) (e ∙ ap (decoded os) f)) ∙ k))
 
-  pub codec-asks : dec .ok ≡ false → replyNumber (u .reply) ≡ reply-for (dec .refusal) → Understands os u
-  unfolding decoded noMessage read-as
-  codec-asks k r = go (decode os) refl
+pub codec-asks : (os : List ℕ) (dec : Decoded) → dec ≡ decoded os (decode os) → (u : Understood) (listed : List ℕ) → understood os ≡ read-as os (heard os)
+    → dec .ok ≡ false → replyNumber (u .reply) ≡ reply-for (dec .refusal) → Understands os u listed
+unfolding decoded noMessage read-as
+codec-asks os dec e u listed i k r = go (decode os) refl
+  where
+    go : (o : Outcome Msg) → decode os ≡ o → Understands os u listed
+    go (ok x) f = absurd (unlike (sym k ∙ ap (λ (z : Decoded). z .ok) (e ∙ ap (decoded os) f)))
+    go (refuse n) f =
+        let z : dec .refusal ≡ n = ap (λ (z : Decoded). z .refusal) (e ∙ ap (decoded os) f) in
+        refuses-asks os n u listed (i ∙ ap (read-as os) (refused-heard os n f)) (r ∙ ap reply-for z ∙ reply-for-is n (refusals os n f)) (refusal-some n (refusals os n f))
+
+-- ---- what is read the short way is served
+served-way : (w : Way) → isServed w ≡ true → goesUp w ≡ true
+served-way down h = h
+served-way up h = refl
+served-way served h = refl
+
+served-known : (n : ℕ) → is-served n ≡ true → n ≤ 42
+unfolding is-served entry
+served-known n h = go (ltb 42 n) refl
+  where
+    go : (b : Bool) → ltb 42 n ≡ b → n ≤ 42
+    go true e = absurd (unlike (rw (List·getD-eq-default table (down, unknown) {n = n} (omega (arith, ltb-true 42 n e))) at h))
+    go false e = omega (arith, ltb-false 42 n e)
+
+served-understood : (os : List ℕ) (x : Msg) → decode os ≡ ok x → is-served (number-in os) ≡ true → understood os ≡ read-as os (heard os)
+unfolding decode is-served may-go-up
+served-understood os x e s =
+    taken (sized os) (ending (readMsg os)) 4 e λ size some.
+    read-understood os (ltb-true 0 (length os) (both-left (ltb 0 (length os)) (leb (length os) 1024) size))
+    (leb-true (length os) 1024 (both-right (ltb 0 (length os)) (leb (length os) 1024) size)) (served-known (number-in os) s) (served-way (entry (number-in os) .0) s) s
+
+module _ (os : List ℕ) (q : Short) (h : Shortly os q) (a : q .first < 65536) (b : q .second < 65536) (c : q .third < 65536) where
+  pub short-asks : Bytes os → (u : Understood) → Requests (q .number) (q .first) (q .second) (q .third) 0 u → (listed : List ℕ) → Understands os u listed
+  unfolding in-full decoded noMessage Lists
+  short-asks y u r listed = go (decode os) refl
     where
-      go : (o : Outcome Msg) → decode os ≡ o → Understands os u
-      go (ok x) f = absurd (unlike (sym k ∙ ap (λ (z : Decoded). z .ok) (e ∙ ap (decoded os) f)))
-      go (refuse n) f =
-          let z : dec .refusal ≡ n = ap (λ (z : Decoded). z .refusal) (e ∙ ap (decoded os) f) in
-          refuses-asks os n u (i ∙ ap (read-as os) (refused-heard os n f)) (r ∙ ap reply-for z ∙ reply-for-is n (refusals os n f)) (refusal-some n (refusals os n f))
+      go : (o : Outcome Msg) → decode os ≡ o → Understands os u listed
+      go (ok x) f =
+          let e = h .same ∙ ap (decoded os) f in
+          let s : is-served (number-in os) ≡ true = ap is-served (sym (ap (λ (z : Decoded). z .number) e ∙ number-is os x f)) ∙ h .served in
+          asked-asks os (in-full q) u (rw (← small (q .first) (omega arith), ← small (q .second) (omega arith), ← small (q .third) (omega arith)) at r) listed refl
+          (h .same) (served-understood os x f s) y refl s
+      go (refuse n) f = absurd (unlike (sym (ap (λ (z : Decoded). z .ok) (h .same ∙ ap (decoded os) f))))
 
 -- ---- what is asked, by the reply
-module _ (new : ℕ) (d : Domain) (p room : ℕ) (os : List ℕ) (u : Understood) where
+module _ (new : ℕ) (d : Domain) (p room : ℕ) (os : List ℕ) (u : Understood) (listed : List ℕ) where
   pub refused-asks : (replyNumber (u .reply) ≡ 0 → ⊥)
-      → asks new d p room os u ≡ sends d room (replyNumber (u .reply)) d (complaint (replyNumber (u .reply)) p os)
+      → asks new d p room os u listed ≡ sends d room (replyNumber (u .reply)) d (complaint (replyNumber (u .reply)) p os)
   unfolding asks
   refused-asks h = rw (ne-eqb (replyNumber (u .reply)) 0 h) refl
 
-  pub requested-asks : replyNumber (u .reply) ≡ 0 → asks new d p room os u ≡ ends d room (act new d p (requested u))
+  pub requested-asks : replyNumber (u .reply) ≡ 0 → asks new d p room os u listed ≡ ends d room (act new d p (requested u listed))
   unfolding asks
   requested-asks h = rw h refl

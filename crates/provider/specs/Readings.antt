@@ -19,24 +19,26 @@ use Rattle.provider.specs.Provider.{understood}
 unfoldable pub reply-for : ℕ → ℕ
 reply-for n = if eqb n 4 then 4 else if eqb n 5 then 5 else if eqb n 7 then 7 else 8
 
--- what the code understood: a reply other than 0 refuses, and else a request is made
-unfoldable pub requested : Understood → Message
-requested u = request (u .number) (u .first) (u .second) (u .third) (take (u .count) (u .listed))
+-- what the code understood, with the ids that it listed: a reply other than 0 refuses, and else a request is made
+unfoldable pub requested : Understood → List ℕ → Message
+requested u listed = request (u .number) (u .first) (u .second) (u .third) (take (u .count) listed)
 
-unfoldable pub asks : (new : ℕ) (d : Domain) (p room : ℕ) (os : List ℕ) (u : Understood) → Outcome
-asks new d p room os u =
-    if eqb (replyNumber (u .reply)) 0 then ends d room (act new d p (requested u))
+unfoldable pub asks : (new : ℕ) (d : Domain) (p room : ℕ) (os : List ℕ) (u : Understood) (listed : List ℕ) → Outcome
+asks new d p room os u listed =
+    if eqb (replyNumber (u .reply)) 0 then ends d room (act new d p (requested u listed))
     else sends d room (replyNumber (u .reply)) d (complaint (replyNumber (u .reply)) p os)
 
-abbrev pub Understands : (os : List ℕ) (u : Understood) → Type 0
-Understands os u = (new : ℕ) (d : Domain) (p room : ℕ) → answers new d p (understood os) room ≡ asks new d p room os u
+abbrev pub Understands : (os : List ℕ) (u : Understood) (listed : List ℕ) → Type 0
+Understands os u listed = (new : ℕ) (d : Domain) (p room : ℕ) → answers new d p (understood os) room ≡ asks new d p room os u listed
 
--- a message that was read, as a request: nothing is lost below 65,536
-pub record Asked (d : Decoded) (u : Understood) : Type 0 where
+-- a request by its number, values and count of ids; and one of a message that was read: nothing is lost below 65,536
+pub record Requests (number first second third count : ℕ) (u : Understood) : Type 0 where
   pub done : replyNumber (u .reply) ≡ 0
-  pub number : u .number ≡ d .number
-  pub first : u .first ≡ getD (d .values) 0 0 % 65536
-  pub second : u .second ≡ getD (d .values) 1 0 % 65536
-  pub third : u .third ≡ getD (d .values) 2 0 % 65536
-  pub count : u .count ≡ d .count
-  pub listed : u .listed ≡ d .ids
+  pub number-is : u .number ≡ number
+  pub first-is : u .first ≡ first
+  pub second-is : u .second ≡ second
+  pub third-is : u .third ≡ third
+  pub count-is : u .count ≡ count
+
+abbrev pub Asked : Decoded → Understood → Type 0
+Asked d u = Requests (d .number) (getD (d .values) 0 0 % 65536) (getD (d .values) 1 0 % 65536) (getD (d .values) 2 0 % 65536) (d .count) u

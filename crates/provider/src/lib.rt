@@ -87,12 +87,12 @@ pub fn message(
             sent: 0,
         };
     }
-    let u = reading::understand(octets);
+    let mut listed = [0u16; 64];
+    let u = reading::understand(octets, &mut listed);
     let reply = u.reply;
     if domain::numbers::reply_number(reply) != 0 {
         return reception::refusing::refuse(p, reply, octets, out);
     }
-    let listed = u.listed;
     requests::request(
         limits,
         links,

@@ -1,11 +1,11 @@
 // What the provider makes of the octets of a message, before it looks at any table.
 ghost use mathlib.Core.Path.{_≡_};
 ghost use Rattle.domain.specs.Numbers.{replyNumber};
-ghost use Rattle.provider.specs.Readings.{reply-for, Understands, Asked};
+ghost use Rattle.provider.specs.Readings.{reply-for, Understands, Requests, Asked};
 use domain::numbers::Reply;
 use reader::Decoded;
 
-// A reply that refuses, or Done with a request: its number, first values and list.
+// A reply that refuses, or Done with a request: its number, first values and how many ids it lists.
 pub struct Understood {
     pub reply: Reply,
     pub number: u32,
@@ -13,11 +13,21 @@ pub struct Understood {
     pub second: u16,
     pub third: u16,
     pub count: usize,
-    pub listed: [u16; 64],
 }
 
-pub fn understand(octets: &[u8]) -> Understood
-    ensures { λ r. ⌜ Understands (now (octets .entry)) r ⌝ }
+// The short way first; else the long way, which stores the ids that are listed.
+pub fn understand(octets: &[u8], listed: &mut [u16; 64]) -> Understood
+    ensures { λ r. ⌜ Understands (now (octets .entry)) r (now (listed .exit)) ⌝ }
+{
+    let q = reader::short::read_short(octets);
+    if q.ok {
+        return done(q.number, q.first, q.second, q.third, 0);
+    }
+    understand_all(octets, listed)
+}
+
+fn understand_all(octets: &[u8], listed: &mut [u16; 64]) -> Understood
+    ensures { λ r. ⌜ Understands (now (octets .entry)) r (now (listed .exit)) ⌝ }
 {
     if octets.len() == 0 {
         return refused(Reply::WrongLength);
@@ -38,6 +48,8 @@ pub fn understand(octets: &[u8]) -> Understood
     }
     let d = reader::decode(octets);
     if d.ok {
+        let ids = d.ids;
+        *listed = ids;
         return asked(d);
     }
     refused(reply_of(d.refusal))
@@ -65,7 +77,20 @@ fn refused(reply: Reply) -> Understood
         second: 0,
         third: 0,
         count: 0,
-        listed: [0u16; 64],
+    }
+}
+
+// A request: its number, first values and how many ids it lists.
+fn done(number: u32, first: u16, second: u16, third: u16, count: usize) -> Understood
+    ensures { λ r. ⌜ Requests number first second third count r ⌝ }
+{
+    Understood {
+        reply: Reply::Done,
+        number: number,
+        first: first,
+        second: second,
+        third: third,
+        count: count,
     }
 }
 
@@ -74,14 +99,11 @@ fn asked(d: Decoded) -> Understood
     ensures { λ r. ⌜ Asked d r ⌝ }
 {
     let values = d.values;
-    let ids = d.ids;
-    Understood {
-        reply: Reply::Done,
-        number: d.number,
-        first: (values[0] % 65536) as u16,
-        second: (values[1] % 65536) as u16,
-        third: (values[2] % 65536) as u16,
-        count: d.count,
-        listed: ids,
-    }
+    done(
+        d.number,
+        (values[0] % 65536) as u16,
+        (values[1] % 65536) as u16,
+        (values[2] % 65536) as u16,
+        d.count,
+    )
 }

@@ -1,4 +1,5 @@
 pub mod Held
 pub mod Reading
+pub mod Shortly
 pub mod Stepping
 pub mod Stops

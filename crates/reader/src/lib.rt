@@ -1,4 +1,5 @@
 // The reader: the message of some octets, or a refusal. And a reader that remembers the message and the bit that it has reached.
+pub mod short;
 pub mod stops;
 
 use messages::LIST_LIMIT;

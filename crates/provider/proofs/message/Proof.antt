@@ -26,10 +26,12 @@ same-length : tie.Need-same-length
 same-length c = search needs
 
 returns-2 : tie.Need-returns-2
-returns-2 c = let a = c .before .before .before .before .before .before .before .before .before .before .before .before .args in
+returns-2 c =
+    let r = c .before .before .before .before .before in
+    let a = r .before .before .before .before .before .before .before .before .args in
     c .before .before .refuse .ensures _
-    ∙ open-refused _ (a .p) _ _ (c .before .before .before .before .before .before .before .before .is-open .ensures) (not-false _ (c .before .before .before .before .before .before .before .if1 .left)) (understood (a .octets .now)) _ _
-    (c .before .before .before .before .before .before .understand .ensures _ _ _ _ ∙ refused-asks _ _ _ _ (a .octets .now) (c .before .before .before .before .before .before .understand .result) (λ e. c .before .before .before .before .if2 .taken (c .before .before .before .before .before .reply-number .ensures ∙ e)))
+    ∙ open-refused _ (a .p) _ _ (r .before .before .before .before .is-open .ensures) (not-false _ (r .before .before .before .if1 .left)) (understood (a .octets .now)) _ _
+    (r .before .understand .ensures _ _ _ _ ∙ refused-asks _ _ _ _ (a .octets .now) (r .before .understand .result) _ (λ e. c .before .before .before .before .if2 .taken (r .reply-number .ensures ∙ e)))
 
 request-requires : tie.Need-request-requires
 request-requires c κs = search needs
@@ -39,10 +41,13 @@ same-length-2 c = search needs
 
 returns-3 : tie.Need-returns-3
 unfolding requested
-returns-3 c = let a = c .before .before .before .before .before .before .before .before .before .before .before .before .before .before .before .before .before .before .before .before .before .before .before .before .before .args in
+returns-3 c =
+    let e = c .before .before .before .before .before .before .before .before .before .before .before .before .before .before .before .before in
+    let r = e .before in
+    let a = r .before .before .before .before .before .before .before .before .args in
     c .before .before .request .ensures
-    ∙ open-served _ (a .p) _ _ (c .before .before .before .before .before .before .before .before .before .before .before .before .before .before .before .before .before .before .before .before .before .is-open .ensures) (not-false _ (c .before .before .before .before .before .before .before .before .before .before .before .before .before .before .before .before .before .before .before .before .if1 .left)) (understood (a .octets .now)) _
-    (c .before .before .before .before .before .before .before .before .before .before .before .before .before .before .before .before .before .before .before .understand .ensures _ _ _ _ ∙ requested-asks _ _ _ _ (a .octets .now) (c .before .before .before .before .before .before .before .before .before .before .before .before .before .before .before .before .before .before .before .understand .result) (sym (c .before .before .before .before .before .before .before .before .before .before .before .before .before .before .before .before .before .before .reply-number .ensures) ∙ c .before .before .before .before .before .before .before .before .before .before .before .before .before .before .before .before .before .if2 .left))
+    ∙ open-served _ (a .p) _ _ (r .before .before .before .before .is-open .ensures) (not-false _ (r .before .before .before .if1 .left)) (understood (a .octets .now)) _
+    (r .before .understand .ensures _ _ _ _ ∙ requested-asks _ _ _ _ (a .octets .now) (r .before .understand .result) _ (sym (r .reply-number .ensures) ∙ e .if2 .left))
 
 pub message-spec : {M : Type 1} → statement M
 message-spec =

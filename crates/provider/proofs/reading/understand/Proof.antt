@@ -1,109 +1,29 @@
 use native.Mathlib.Omega.{arith}
 use Rattle.messages.proofs.Refusals.{bytes-at}
-use Rattle.reception.proofs.Turning.{not-true, not-false}
-use mathlib.Core.Path.{refl, sym, ap, _∙_}
-use Rattle.domain.specs.Numbers.{replyNumber}
-use Rattle.provider.specs.Provider.{number-in}
-use Rattle.provider.proofs.Understanding.{none-understood, long-understood, unknown-understood, down-understood, unserved-understood, read-understood, refuses-asks, asked-asks, codec-asks}
-use Rattle.messages.proofs.ColumnLaws.{up-at, served-at}
+use Rattle.provider.proofs.Understanding.{short-asks}
 use borrow.Author.Needs.{needs}
 use Rattle.provider.proofs.reading.understand.Statement.{statement}
 use Rattle.provider.proofs.reading.understand.Tie as tie
 
-refused-requires : tie.Need-refused-requires
-refused-requires c κs = search needs
+read-short-requires : tie.Need-read-short-requires
+read-short-requires c κs = search needs
+
+done-requires : tie.Need-done-requires
+done-requires c κs = search needs
 
 returns : tie.Need-returns
-returns c = refuses-asks (c .before .before .before .args .octets .now) 4 _ (none-understood (c .before .before .before .args .octets .now) (c .before .if1 .taken)) (ap replyNumber (c .refused .ensures)) refl
+returns c =
+    let os = c .before .before .before .before .args .octets .now in
+    short-asks os _ (c .before .before .read-short .ensures (c .before .if1 .taken)) (search needs) (search needs) (search needs)
+    (bytes-at os (λ i. omega (arith, c .before .before .before .shared-slice-known .given i))) _ (c .done .ensures) _
 
-refused-requires-2 : tie.Need-refused-requires-2
-refused-requires-2 c κs = search needs
+understand-all-requires : tie.Need-understand-all-requires
+understand-all-requires c κs = search needs
 
 returns-2 : tie.Need-returns-2
-returns-2 c = refuses-asks (c .before .before .before .before .args .octets .now) 4 _ (long-understood (c .before .before .before .before .args .octets .now) (c .before .if2 .taken)) (ap replyNumber (c .refused2 .ensures)) refl
-
-shared-slice-read-number : tie.Need-shared-slice-read-number
-shared-slice-read-number c = search needs
-
-cast-number : tie.Need-cast-number
-cast-number c = omega (arith, c .shared-slice-known2 .given 0)
-
-refused-requires-3 : tie.Need-refused-requires-3
-refused-requires-3 c κs = search needs
-
-returns-3 : tie.Need-returns-3
-unfolding number-in
-returns-3 c = refuses-asks (c .before .before .before .before .before .before .args .octets .now) 5 _ (unknown-understood (c .before .before .before .before .before .before .args .octets .now) (search needs) (search needs) (c .before .if3 .taken)) (ap replyNumber (c .refused3 .ensures)) refl
-
-entry-of-requires : tie.Need-entry-of-requires
-entry-of-requires c κs = search needs
-
-goes-up-requires : tie.Need-goes-up-requires
-goes-up-requires c κs = search needs
-
-refused-requires-4 : tie.Need-refused-requires-4
-refused-requires-4 c κs = search needs
-
-returns-4 : tie.Need-returns-4
-unfolding number-in
-returns-4 c = refuses-asks (c .before .before .before .before .before .before .before .before .before .args .octets .now) 6 _ (down-understood (c .before .before .before .before .before .before .before .before .before .args .octets .now) (search needs) (search needs) (c .before .before .before .before .if3 .left) (sym (c .before .before .goes-up .ensures ∙ up-at _ _ (c .before .before .before .entry-of .ensures)) ∙ not-true _ (c .before .if4 .taken))) (ap replyNumber (c .refused4 .ensures)) refl
-
-is-served-requires : tie.Need-is-served-requires
-is-served-requires c κs = search needs
-
-refused-requires-5 : tie.Need-refused-requires-5
-refused-requires-5 c κs = search needs
-
-returns-5 : tie.Need-returns-5
-unfolding number-in
-returns-5 c = refuses-asks (c .before .before .before .before .before .before .before .before .before .before .before .args .octets .now) 7 _ (unserved-understood (c .before .before .before .before .before .before .before .before .before .before .before .args .octets .now) (search needs) (search needs) (c .before .before .before .before .before .before .if3 .left) (sym (c .before .before .before .before .goes-up .ensures ∙ up-at _ _ (c .before .before .before .before .before .entry-of .ensures)) ∙ not-false _ (c .before .before .before .if4 .left)) (sym (c .before .before .is-served .ensures ∙ served-at _ _ (c .before .before .before .before .before .entry-of .ensures)) ∙ not-true _ (c .before .if5 .taken))) (ap replyNumber (c .refused5 .ensures)) refl
-
-decode-requires : tie.Need-decode-requires
-decode-requires c κs = search needs
-
-asked-requires : tie.Need-asked-requires
-asked-requires c κs = search needs
-
-returns-6 : tie.Need-returns-6
-unfolding number-in
-returns-6 c = let os = c .before .before .before .before .before .before .before .before .before .before .before .before .before .args .octets .now in
-    let s = sym (c .before .before .before .before .is-served .ensures ∙ served-at _ _ (c .before .before .before .before .before .before .before .entry-of .ensures)) ∙ not-false _ (c .before .before .before .if5 .left) in
-    asked-asks os _ (c .before .before .decode .ensures) _ (read-understood os (search needs) (search needs) (c .before .before .before .before .before .before .before .before .if3 .left) (sym (c .before .before .before .before .before .before .goes-up .ensures ∙ up-at _ _ (c .before .before .before .before .before .before .before .entry-of .ensures)) ∙ not-false _ (c .before .before .before .before .before .if4 .left)) s) (bytes-at os (λ i. omega (arith, c .before .before .before .before .before .before .before .before .before .shared-slice-known2 .given i))) (c .before .if6 .taken) (c .asked .ensures) s
-
-reply-of-requires : tie.Need-reply-of-requires
-reply-of-requires c κs = search needs
-
-refused-requires-6 : tie.Need-refused-requires-6
-refused-requires-6 c κs = search needs
-
-returns-7 : tie.Need-returns-7
-unfolding number-in
-returns-7 c = let os = c .before .before .before .before .before .before .before .before .before .before .before .before .before .before .args .octets .now in
-    let s = sym (c .before .before .before .before .before .is-served .ensures ∙ served-at _ _ (c .before .before .before .before .before .before .before .before .entry-of .ensures)) ∙ not-false _ (c .before .before .before .before .if5 .left) in
-    codec-asks os _ (c .before .before .before .decode .ensures) _ (read-understood os (search needs) (search needs) (c .before .before .before .before .before .before .before .before .before .if3 .left) (sym (c .before .before .before .before .before .before .before .goes-up .ensures ∙ up-at _ _ (c .before .before .before .before .before .before .before .before .entry-of .ensures)) ∙ not-false _ (c .before .before .before .before .before .before .if4 .left)) s) (c .before .before .if6 .left) (ap replyNumber (c .refused6 .ensures) ∙ c .before .reply-of .ensures)
+returns-2 c = search needs
 
 pub understand-spec : {M : Type 1} → statement M
 understand-spec =
     tie.close
-    (tie.spec
-    refused-requires
-    returns
-    refused-requires-2
-    returns-2
-    shared-slice-read-number
-    cast-number
-    refused-requires-3
-    returns-3
-    entry-of-requires
-    goes-up-requires
-    refused-requires-4
-    returns-4
-    is-served-requires
-    refused-requires-5
-    returns-5
-    decode-requires
-    asked-requires
-    returns-6
-    reply-of-requires
-    refused-requires-6
-    returns-7)
+    (tie.spec read-short-requires done-requires returns understand-all-requires returns-2)

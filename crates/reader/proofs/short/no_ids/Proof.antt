@@ -1,0 +1,33 @@
+use mathlib.Core.Path.{refl, sym, _∙_}
+use native.Mathlib.Omega.{arith}
+use Rattle.messages.specs.Messages.{row, entry, is-served}
+use Rattle.messages.specs.Columns.{tailAt, packedAt, packed}
+use Rattle.reader.proofs.HeldLaws.{unlike}
+use Rattle.reader.proofs.ShortLaws.{none-left, id-before, shortly}
+use borrow.Author.Needs.{needs}
+use Rattle.reader.proofs.short.no_ids.Statement.{statement}
+use Rattle.reader.proofs.short.no_ids.Tie as tie
+
+shared-slice-read-if1 : tie.Need-shared-slice-read-if1
+shared-slice-read-if1 c = search needs
+
+not-short-requires : tie.Need-not-short-requires
+not-short-requires c κs = search needs
+
+returns : tie.Need-returns
+returns c k = absurd (unlike (sym (c .not-short .ensures) ∙ k))
+
+of-values-requires : tie.Need-of-values-requires
+of-values-requires c κs = search needs
+
+returns-2 : tie.Need-returns-2
+unfolding row entry is-served tailAt packedAt packed
+returns-2 c k =
+    let s = c .before .before .before .before .args .s .now in
+    let m = c .of-values .ensures k in
+    shortly s 0x28 (sym (c .before .if1 .left)) (search needs) (search needs) (search needs) 0 refl _ _ (record { is = refl; no-string = refl; served = refl }) (none-left (search needs)) _ (m .is) refl
+
+pub no-ids-spec : {M : Type 1} → statement M
+no-ids-spec =
+    tie.close
+    (tie.spec shared-slice-read-if1 not-short-requires returns of-values-requires returns-2)

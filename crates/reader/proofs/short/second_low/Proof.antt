@@ -1,0 +1,30 @@
+use mathlib.Core.Path.{refl}
+use mathlib.Core.Logic.{⊎-elim}
+use native.Mathlib.Omega.{arith}
+use Rattle.messages.specs.Messages.{row, entry, is-served}
+use Rattle.messages.specs.Columns.{tailAt, packedAt, packed}
+use Rattle.reader.proofs.ShortLaws.{second-is}
+use Rattle.reader.proofs.short.second_low.Statement.{statement}
+use Rattle.reader.proofs.short.second_low.Tie as tie
+
+returns : tie.Need-returns
+unfolding row entry is-served tailAt packedAt packed
+returns c = second-is 0x38 0 refl (omega arith) _ (c .match .keys1)
+
+returns-2 : tie.Need-returns-2
+unfolding row entry is-served tailAt packedAt packed
+returns-2 c = second-is 0x4C 1001 refl (omega arith) _ (c .match .keys2)
+
+returns-3 : tie.Need-returns-3
+unfolding row entry is-served tailAt packedAt packed
+returns-3 c =
+    ⊎-elim (second-is 0x74 1 refl (omega arith) _)
+    (⊎-elim (second-is 0x7C 1 refl (omega arith) _)
+    (⊎-elim (second-is 0x94 1 refl (omega arith) _) (⊎-elim (second-is 0x9C 1 refl (omega arith) _) (second-is 0xA4 1 refl (omega arith) _))))
+    (c .match .keys3)
+
+returns-4 : tie.Need-returns-4
+returns-4 c = record { most = omega arith; starts = λ h. absurd (omega arith); whole = λ h. absurd (omega arith) }
+
+pub second-low-spec : {M : Type 1} → statement M
+second-low-spec = tie.close (tie.spec returns returns-2 returns-3 returns-4)

@@ -1,0 +1,48 @@
+use mathlib.Core.Path.{refl, sym, _∙_}
+use native.Mathlib.Omega.{arith}
+use Prim.Native.Nat.{_≤_}
+use lib.ListN.{getD}
+use Rattle.reader.proofs.ShortLaws.{none-left, id-before, shortly}
+use borrow.Author.Needs.{needs}
+use Rattle.reader.proofs.short.two_ids.Statement.{statement}
+use Rattle.reader.proofs.short.two_ids.Tie as tie
+
+shared-slice-read-o : tie.Need-shared-slice-read-o
+shared-slice-read-o c = search needs
+
+second-low-requires : tie.Need-second-low-requires
+second-low-requires c κs = search needs
+
+wide-requires : tie.Need-wide-requires
+wide-requires c κs = search needs
+
+id-at-requires : tie.Need-id-at-requires
+id-at-requires c κs = search needs
+
+id-at-requires-2 : tie.Need-id-at-requires-2
+id-at-requires-2 c κs = search needs
+
+of-values-requires : tie.Need-of-values-requires
+of-values-requires c κs = search needs
+
+returns : tie.Need-returns
+returns c k =
+    let s = c .before .before .before .before .before .before .before .args .s .now in
+    let m = c .of-values .ensures k in
+    let second = c .before .before .before .before .second-low .ensures in
+    let low : c .before .before .before .before .second-low .result ≤ 65535 = omega (arith, c .before .id-at2 .ensures .least, m .second) in
+    shortly s (getD s 0 0) refl (search needs) (search needs) (search needs) 0 (second .whole low) _ _ (second .starts low)
+    (id-before (c .before .before .id-at .ensures) (m .first) (id-before (c .before .id-at2 .ensures) (m .second) (none-left (search needs)))) _
+    (rw (c .before .before .before .wide .ensures .0) at (m .is)) refl
+
+pub two-ids-spec : {M : Type 1} → statement M
+two-ids-spec =
+    tie.close
+    (tie.spec
+    shared-slice-read-o
+    second-low-requires
+    wide-requires
+    id-at-requires
+    id-at-requires-2
+    of-values-requires
+    returns)
