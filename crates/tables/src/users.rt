@@ -32,16 +32,17 @@ pub fn add_user(names: &mut [u16; 64], homes: &mut [u8; 64], u: u16, p: u8)
     }
 }
 
-// The connections that have a user of a mask of places.
+// The connections that have a user of a mask of places. The mask is halved from place to place, until none is left.
 pub fn hosts(names: &[u16; 64], homes: &[u8; 64], who: u64) -> u16
     ensures { λ r. ⌜ r ≡ hostsOf (users-of (now (names .entry)) (now (homes .entry))) who ⌝ }
 {
     let at = &homes[..];
     let mut m: u16 = 0;
-    let mut i: u8 = 0;
-    while i < 64 {
-        let j = i as usize;
-        m = host(m, places::masks::has(who, i), at[j]);
+    let mut i = 0;
+    let mut left = who;
+    while 0 < left {
+        m = host(m, left % 2 == 1, at[i]);
+        left = left / 2;
         i += 1;
     }
     m

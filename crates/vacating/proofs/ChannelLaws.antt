@@ -1,26 +1,25 @@
--- What becomes of a channel, and the table once every place is swept.
+-- What becomes of a channel, and where the sweep of the table starts.
 use mathlib.Core.Path.{_≡_, refl, sym, ap, _∙_}
 use mathlib.Core.Bool.{true, false}
-use mathlib.Core.List.{List, [], _∷_}
+use mathlib.Core.List.{List}
 use mathlib.Core.Option.{Option, none, some}
 use Prim.Native.Nat.{ℕ, _≤_, _<_}
-use native.Mathlib.Omega.{arith}
 use borrow.Author.Tests.{eq-eqb, ne-eqb}
-use lib.ListN.{length, getD, set}
+use lib.ListN.{length}
 use Rattle.places.specs.Sets.{if_then_else_, has, minus, meet, links, seats}
 use Rattle.places.specs.Places.{Place, At, Nowhere, find, number}
+use Rattle.places.specs.Swept.{anywhere}
 use Rattle.places.proofs.Answers.{find-at, find-nowhere}
+use Rattle.places.proofs.Sweeps.{Sweeps, sweeps-start}
 use Rattle.domain.specs.declared.channel.Kind.the-variants.{Static, User, Private, Assigned}
 use Rattle.domain.specs.declared.channel.Channel.{Channel}
 use Rattle.domain.specs.Cells.{no-channel, kind, with-marks}
-use Rattle.domain.specs.Tables.{Users, channels-of, channel-cells, end-channel, lapses, marked, sweep-channels}
+use Rattle.domain.specs.Tables.{Users, channel-cells, lapses, marked}
 use Rattle.domain.specs.Channels.{private}
 use Rattle.domain.specs.Leaving.{fate, fate-of}
+use Rattle.tables.proofs.ChannelSweeps.{channel-count}
 use Rattle.vacating.specs.declared.channels.Fate.{Fate}
-use Rattle.vacating.specs.declared.channels.Fate.the-variants.{Ends, Stays}
-use Rattle.vacating.specs.Swept.{Turns}
-use Rattle.vacating.specs.Fates.{fateOf, anywhere, gone-at}
-use Rattle.vacating.proofs.Sweeps.{turn-ends, turn-stays, Sweeps, sweeps-start, sweeps-end}
+use Rattle.vacating.specs.Fates.{fateOf, gone-at}
 
 -- ---- marks
 module _ (ch : Channel) (m : ℕ) where
@@ -82,36 +81,11 @@ module _ (us : Users) (gone live c : ℕ) (ch : Channel) (m : ℕ) (e : m ≡ me
     unfolding fate fate-of
     fate-private h left z = rw (k, h, z, e) refl
 
--- ---- one place
-module _ (f : ℕ → Channel → Option Channel) (j : ℕ) (ids rs cs gs ms ids' rs' cs' gs' ms' : List ℕ) (n : getD ids j 0 ≡ 0 → ⊥) (ch : Channel)
-    (e : ch ≡ getD (channel-cells rs cs gs ms) j no-channel) (r : Fate) (z : fateOf r ≡ f (getD ids j 0) ch) where
-  pub channel-ends : r ≡ Ends → channels-of ids' rs' cs' gs' ms' ≡ end-channel (channels-of ids rs cs gs ms) j
-      → Turns no-channel (anywhere f) j ids (channel-cells rs cs gs ms) ids' (channel-cells rs' cs' gs' ms')
-  unfolding end-channel
-  channel-ends q w =
-      rw (ap (λ t. t .ids) w, ap (λ t. t .cells) w)
-      (turn-ends no-channel (anywhere f) j ids (channel-cells rs cs gs ms) n (ap (f (getD ids j 0)) (sym e) ∙ sym z ∙ ap fateOf q))
-
-  pub channel-stays : (kept : Channel) → r ≡ Stays kept → channel-cells rs' cs' gs' ms' ≡ set (channel-cells rs cs gs ms) j kept
-      → Turns no-channel (anywhere f) j ids (channel-cells rs cs gs ms) ids (channel-cells rs' cs' gs' ms')
-  channel-stays kept q w =
-      rw w (turn-stays no-channel (anywhere f) j ids (channel-cells rs cs gs ms) n kept (ap (f (getD ids j 0)) (sym e) ∙ sym z ∙ ap fateOf q))
+-- ---- one place: what the code found is its fate
+pub fated : (f : ℕ → Channel → Option Channel) (c : ℕ) (at ch : Channel) → ch ≡ at → (r r' : Fate) → fateOf r ≡ f c ch → r ≡ r' → f c at ≡ fateOf r'
+fated f c at ch e r r' z q = ap (f c) (sym e) ∙ sym z ∙ ap fateOf q
 
 -- ---- all of them
-long : (n : ℕ) (rs cs gs ms : List ℕ) → length rs ≡ n → length cs ≡ n → length gs ≡ n → length ms ≡ n → length (channel-cells rs cs gs ms) ≡ n
-unfolding channel-cells
-long n [] cs gs ms a b d e = a
-long n (r ∷ rs) [] gs ms a b d e = absurd (omega arith)
-long n (r ∷ rs) (x ∷ cs) [] ms a b d e = absurd (omega arith)
-long n (r ∷ rs) (x ∷ cs) (g ∷ gs) [] a b d e = absurd (omega arith)
-long n (r ∷ rs) (x ∷ cs) (g ∷ gs) (m ∷ ms) a b d e = let l = long (length rs) rs cs gs ms refl (omega arith) (omega arith) (omega arith) in omega arith
-
 pub channels-start : (f : ℕ → Channel → Option Channel) (ids rs cs gs ms : List ℕ) → length ids ≡ 128 → length rs ≡ 128 → length cs ≡ 128 → length gs ≡ 128 → length ms ≡ 128
     → Sweeps no-channel (anywhere f) 128 ids (channel-cells rs cs gs ms) 0 ids (channel-cells rs cs gs ms)
-channels-start f ids rs cs gs ms a b d e g = sweeps-start no-channel (anywhere f) 128 ids (channel-cells rs cs gs ms) a (long 128 rs cs gs ms b d e g)
-
-pub channels-swept : (f : ℕ → Channel → Option Channel) (i : ℕ) (ids₀ rs₀ cs₀ gs₀ ms₀ ids rs cs gs ms : List ℕ)
-    → Sweeps no-channel (anywhere f) 128 ids₀ (channel-cells rs₀ cs₀ gs₀ ms₀) i ids (channel-cells rs cs gs ms) → 128 ≤ i
-    → channels-of ids rs cs gs ms ≡ sweep-channels f (channels-of ids₀ rs₀ cs₀ gs₀ ms₀)
-unfolding sweep-channels
-channels-swept f i ids₀ rs₀ cs₀ gs₀ ms₀ ids rs cs gs ms s h = let e = sweeps-end no-channel (anywhere f) s h in rw (e .0, e .1) refl
+channels-start f ids rs cs gs ms a b d e g = sweeps-start no-channel (anywhere f) 128 ids (channel-cells rs cs gs ms) a (channel-count 128 rs cs gs ms b d e g)

@@ -6,6 +6,7 @@ use Prim.Native.Nat.{ℕ, _≤_, _<_}
 use native.Mathlib.Omega.{arith}
 use lib.ListN.{length, getD, set}
 use Rattle.places.specs.Sets.{has}
+use Rattle.places.specs.Swept.{Turns}
 use Rattle.domain.specs.declared.token.Holding.{Holding}
 use Rattle.domain.specs.declared.token.Holding.the-variants.{Free, Grabbed, Inhibited, Giving, Given}
 use Rattle.domain.specs.declared.token.Token.{Token}
@@ -13,9 +14,8 @@ use Rattle.domain.specs.Cells.{no-token, hold, token-of}
 use Rattle.domain.specs.Tables.{users-of, stays-on, remove-users, tokens-of, token-cells, is-free, sweep-tokens}
 use Rattle.domain.specs.Tokens.{lose}
 use Rattle.domain.proofs.CellLaws.{token, token-at, token-set}
-use Rattle.vacating.specs.Swept.{Turns}
 use Rattle.vacating.specs.Fates.{loses}
-use Rattle.vacating.proofs.Sweeps.{turn-ends, turn-stays, turn-keeps, Sweeps, sweeps-start, sweeps-end}
+use Rattle.places.proofs.Sweeps.{turn-ends, turn-stays, turn-keeps, Sweeps, sweeps-start, sweeps-end}
 
 -- ---- users
 module _ (gone i : ℕ) (xs cs : List ℕ) (n : getD xs i 0 ≡ 0 → ⊥) where

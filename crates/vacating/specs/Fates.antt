@@ -21,10 +21,6 @@ abbrev pub fateOf : Fate → Option Channel
 fateOf Ends = none
 fateOf (Stays ch) = some ch
 
--- a channel's fate, wherever it stands
-abbrev pub anywhere : (ℕ → Channel → Option Channel) → ℕ → ℕ → Channel → Option Channel
-anywhere f j c ch = f c ch
-
 -- a place is one of a mask's; nowhere is none
 unfoldable pub gone-at : ℕ → Place → Bool
 gone-at gone (At i) = has gone i

@@ -2,12 +2,12 @@
 ghost use mathlib.Core.Path.{_≡_};
 ghost use Prim.Native.Nat.{_<_};
 ghost use Rattle.places.specs.Places.{find as findIn};
+ghost use Rattle.places.specs.Swept.{Turns, anywhere};
 ghost use Rattle.domain.specs.Cells.{no-channel};
 ghost use Rattle.domain.specs.Tables.{users-of, channels-of, channel-cells, marked as markedOf, sweep-channels};
 ghost use Rattle.domain.specs.Channels.{private as privateOf};
 ghost use Rattle.domain.specs.Leaving.{fate as fateIn};
-ghost use Rattle.vacating.specs.Swept.{Turns};
-ghost use Rattle.vacating.specs.Fates.{fateOf, anywhere, gone-at};
+ghost use Rattle.vacating.specs.Fates.{fateOf, gone-at};
 use domain::channel::Channel;
 use domain::channel::Kind;
 
@@ -142,7 +142,7 @@ pub fn leave(
     let n3 = chairs[..].len();
     let n4 = guests[..].len();
     let n5 = marks[..].len();
-    let mut j = 0;
+    let mut j = places::columns::used_from(ids, 0);
     while j < 128 {
         leave_place(
             names,
@@ -156,6 +156,6 @@ pub fn leave(
             live,
             j,
         );
-        j += 1;
+        j = places::columns::used_from(ids, j + 1);
     }
 }

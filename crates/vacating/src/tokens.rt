@@ -1,23 +1,28 @@
 // The tokens once some users have left.
 ghost use mathlib.Core.Path.{_≡_};
 ghost use Prim.Native.Nat.{_<_};
+ghost use Rattle.places.specs.Swept.{Turns};
 ghost use Rattle.domain.specs.Cells.{no-token};
 ghost use Rattle.domain.specs.Tables.{tokens-of, token-cells, sweep-tokens};
 ghost use Rattle.domain.specs.Tokens.{lose};
-ghost use Rattle.vacating.specs.Swept.{Turns};
 ghost use Rattle.vacating.specs.Fates.{loses};
 use domain::token::Token;
 
-// What becomes of the token at place i; free, it has no place.
-fn leave_place(keys: &mut [u16; 64], modes: &mut [u8; 64], values: &mut [u64; 64], gone: u64, i: u8)
-    requires { ⌜ i < 64 ⌝ }
-    ensures { λ _. ⌜ Turns no-token (loses gone) i (now (keys .entry)) (token-cells (now (modes .entry)) (now (values .entry)))
+// What becomes of the token at place j; free, it has no place.
+fn leave_place(
+    keys: &mut [u16; 64],
+    modes: &mut [u8; 64],
+    values: &mut [u64; 64],
+    gone: u64,
+    j: usize,
+)
+    requires { ⌜ j < 64 ⌝ }
+    ensures { λ _. ⌜ Turns no-token (loses gone) j (now (keys .entry)) (token-cells (now (modes .entry)) (now (values .entry)))
         (now (keys .exit)) (token-cells (now (modes .exit)) (now (values .exit))) ⌝ }
 {
     // How long the columns are: a cell is read where both are long enough.
     let n = modes[..].len();
     let m = values[..].len();
-    let j = i as usize;
     if keys[j] == 0 {
         return;
     }
@@ -45,9 +50,9 @@ pub fn leave(keys: &mut [u16; 64], modes: &mut [u8; 64], values: &mut [u64; 64],
     let n = keys[..].len();
     let m = modes[..].len();
     let o = values[..].len();
-    let mut i: u8 = 0;
-    while i < 64 {
-        leave_place(keys, modes, values, gone, i);
-        i += 1;
+    let mut j = places::columns::used_from(keys, 0);
+    while j < 64 {
+        leave_place(keys, modes, values, gone, j);
+        j = places::columns::used_from(keys, j + 1);
     }
 }

@@ -1,19 +1,18 @@
 // The users' table without those who leave.
 ghost use mathlib.Core.Path.{_≡_};
 ghost use Prim.Native.Nat.{_<_};
+ghost use Rattle.places.specs.Swept.{Turns};
 ghost use Rattle.domain.specs.Tables.{users-of, stays-on, remove-users};
-ghost use Rattle.vacating.specs.Swept.{Turns};
 
-// Place i is free where its user leaves.
-fn leave_place(names: &mut [u16; 64], homes: &mut [u8; 64], gone: u64, i: u8)
-    requires { ⌜ i < 64 ⌝ }
-    ensures { λ _. ⌜ Turns 0 (stays-on gone) i (now (names .entry)) (now (homes .entry)) (now (names .exit)) (now (homes .exit)) ⌝ }
+// Place j is free where its user leaves.
+fn leave_place(names: &mut [u16; 64], homes: &mut [u8; 64], gone: u64, j: usize)
+    requires { ⌜ j < 64 ⌝ }
+    ensures { λ _. ⌜ Turns 0 (stays-on gone) j (now (names .entry)) (now (homes .entry)) (now (names .exit)) (now (homes .exit)) ⌝ }
 {
-    let j = i as usize;
     if names[j] == 0 {
         return;
     }
-    if places::masks::has(gone, i) {
+    if places::masks::has(gone, j as u8) {
         names[j] = 0;
         homes[j] = 0;
     }
@@ -26,9 +25,9 @@ pub fn leave(names: &mut [u16; 64], homes: &mut [u8; 64], gone: u64)
     // How long the columns are: what the loop keeps.
     let n = names[..].len();
     let m = homes[..].len();
-    let mut i: u8 = 0;
-    while i < 64 {
-        leave_place(names, homes, gone, i);
-        i += 1;
+    let mut j = places::columns::used_from(names, 0);
+    while j < 64 {
+        leave_place(names, homes, gone, j);
+        j = places::columns::used_from(names, j + 1);
     }
 }

@@ -1,10 +1,11 @@
 use borrow.Author.Needs.{needs}
+use Rattle.places.specs.Swept.{anywhere}
+use Rattle.places.proofs.Sweeps.{turn-free}
 use Rattle.domain.specs.Cells.{no-channel}
 use Rattle.domain.specs.Tables.{users-of}
 use Rattle.domain.specs.Leaving.{fate}
-use Rattle.vacating.specs.Fates.{anywhere}
-use Rattle.vacating.proofs.Sweeps.{turn-free}
-use Rattle.vacating.proofs.ChannelLaws.{channel-ends, channel-stays}
+use Rattle.tables.proofs.ChannelSweeps.{channel-ends, channel-stays}
+use Rattle.vacating.proofs.ChannelLaws.{fated}
 use Rattle.vacating.proofs.channels.leave_place.Statement.{statement}
 use Rattle.vacating.proofs.channels.leave_place.Tie as tie
 
@@ -37,14 +38,22 @@ set-channel-requires : tie.Need-set-channel-requires
 set-channel-requires c κs = search needs
 
 returns-2 : tie.Need-returns-2
-returns-2 c = let a = c .before .before .before .before .before .before .before .before .before .before .before .before .before .before .before .before .args in
-    channel-ends (fate (users-of (a .names .now) (a .homes .now)) (a .gone) (a .live)) (a .j) (a .ids .now) (a .roles .now) (a .chairs .now) (a .guests .now) (a .marks .now) _ _ _ _ _
-    (c .before .before .before .before .before .before .before .before .before .before .before .before .before .before .if1 .left) (c .before .before .before .before .before .before .before .before .before .channel-at .result) (c .before .before .before .before .before .before .before .before .before .channel-at .ensures) (c .before .before .before .before .before .before .before .before .fate-of .result) (c .before .before .before .before .before .before .before .before .fate-of .ensures) (c .before .before .before .before .before .before .enum-told .given .1) (c .end-channel .ensures)
+returns-2 c =
+    let a = c .before .before .before .before .before .before .before .before .before .before .before .before .before .before .before .before .args in
+    let f = fate (users-of (a .names .now) (a .homes .now)) (a .gone) (a .live) in
+    let found = c .before .before .before .before .before .before .before .before .before .channel-at in
+    let fate = c .before .before .before .before .before .before .before .before .fate-of in
+    channel-ends f (a .j) (a .ids .now) (a .roles .now) (a .chairs .now) (a .guests .now) (a .marks .now) _ _ _ _ _ (c .before .before .before .before .before .before .before .before .before .before .before .before .before .before .if1 .left)
+    (fated f _ _ (found .result) (found .ensures) (fate .result) _ (fate .ensures) (c .before .before .before .before .before .before .enum-told .given .1)) (c .end-channel .ensures)
 
 returns-3 : tie.Need-returns-3
-returns-3 c = let a = c .before .before .before .before .before .before .before .before .before .before .before .before .before .before .before .before .args in
-    channel-stays (fate (users-of (a .names .now) (a .homes .now)) (a .gone) (a .live)) (a .j) (a .ids .now) (a .roles .now) (a .chairs .now) (a .guests .now) (a .marks .now) (a .ids .now) _ _ _ _
-    (c .before .before .before .before .before .before .before .before .before .before .before .before .before .before .if1 .left) (c .before .before .before .before .before .before .before .before .before .channel-at .result) (c .before .before .before .before .before .before .before .before .before .channel-at .ensures) (c .before .before .before .before .before .before .before .before .fate-of .result) (c .before .before .before .before .before .before .before .before .fate-of .ensures) _ (c .before .before .before .before .before .before .f .given .1) (c .set-channel .ensures)
+returns-3 c =
+    let a = c .before .before .before .before .before .before .before .before .before .before .before .before .before .before .before .before .args in
+    let f = fate (users-of (a .names .now) (a .homes .now)) (a .gone) (a .live) in
+    let found = c .before .before .before .before .before .before .before .before .before .channel-at in
+    let fate = c .before .before .before .before .before .before .before .before .fate-of in
+    channel-stays f (a .j) (a .ids .now) (a .roles .now) (a .chairs .now) (a .guests .now) (a .marks .now) (a .ids .now) _ _ _ _ (c .before .before .before .before .before .before .before .before .before .before .before .before .before .before .if1 .left) _
+    (fated f _ _ (found .result) (found .ensures) (fate .result) _ (fate .ensures) (c .before .before .before .before .before .before .f .given .1)) (c .set-channel .ensures)
 
 pub leave-place-spec : {M : Type 1} → statement M
 leave-place-spec =

@@ -1,10 +1,10 @@
 use mathlib.Core.Path.{sym, ap, _∙_}
 use native.Mathlib.Omega.{arith}
 use borrow.Author.Needs.{needs}
+use Rattle.places.proofs.Sweeps.{turn-free}
 use Rattle.domain.specs.Cells.{no-token}
 use Rattle.domain.specs.Tokens.{lose}
 use Rattle.vacating.specs.Fates.{loses}
-use Rattle.vacating.proofs.Sweeps.{turn-free}
 use Rattle.vacating.proofs.StoreLaws.{token-ends, token-stays}
 use Rattle.vacating.proofs.tokens.leave_place.Statement.{statement}
 use Rattle.vacating.proofs.tokens.leave_place.Tie as tie
@@ -18,14 +18,14 @@ element-copy-out-if1 c = search needs
 returns : tie.Need-returns
 returns c = turn-free no-token (loses _) _ _ _ (c .if1 .taken)
 
-element-copy-out-t23 : tie.Need-element-copy-out-t23
-element-copy-out-t23 c = search needs
+element-copy-out-t22 : tie.Need-element-copy-out-t22
+element-copy-out-t22 c = search needs
 
-mul-t15 : tie.Need-mul-t15
-mul-t15 c = search needs
+mul-t14 : tie.Need-mul-t14
+mul-t14 c = search needs
 
-element-copy-out-t26 : tie.Need-element-copy-out-t26
-element-copy-out-t26 c = search needs
+element-copy-out-t25 : tie.Need-element-copy-out-t25
+element-copy-out-t25 c = search needs
 
 holding-of-requires : tie.Need-holding-of-requires
 holding-of-requires c κs = search needs
@@ -56,12 +56,12 @@ element-write-keys c = search needs
 
 returns-2 : tie.Need-returns-2
 returns-2 c = let a = c .before .before .before .before .before .before .before .before .before .before .before .before .before .args in
-    token-ends (a .gone) (a .i) (a .keys .now) (a .modes .now) (a .values .now) (omega arith) (omega arith) (c .before .before .before .before .before .before .before .if1 .left) (c .before .before .before .lose .result) (c .before .before .before .lose .ensures ∙ ap (lose (a .gone)) (c .before .before .before .before .holding-of .ensures))
+    token-ends (a .gone) (a .j) (a .keys .now) (a .modes .now) (a .values .now) (omega arith) (omega arith) (c .before .before .before .before .before .before .before .if1 .left) (c .before .before .before .lose .result) (c .before .before .before .lose .ensures ∙ ap (lose (a .gone)) (c .before .before .before .before .holding-of .ensures))
     (c .before .before .new-token .result) (c .before .before .new-token .ensures) (sym (c .before .free .ensures) ∙ c .if2 .taken)
 
 returns-3 : tie.Need-returns-3
 returns-3 c = let a = c .before .before .before .before .before .before .before .before .before .before .before .before .before .args in
-    token-stays (a .gone) (a .i) (a .keys .now) (a .modes .now) (a .values .now) (omega arith) (omega arith) (c .before .before .before .before .before .before .before .if1 .left) (c .before .before .before .lose .result) (c .before .before .before .lose .ensures ∙ ap (lose (a .gone)) (c .before .before .before .before .holding-of .ensures))
+    token-stays (a .gone) (a .j) (a .keys .now) (a .modes .now) (a .values .now) (omega arith) (omega arith) (c .before .before .before .before .before .before .before .if1 .left) (c .before .before .before .lose .result) (c .before .before .before .lose .ensures ∙ ap (lose (a .gone)) (c .before .before .before .before .holding-of .ensures))
     (c .before .before .new-token .result) (c .before .before .new-token .ensures) (sym (c .before .free .ensures) ∙ c .if2 .left)
 
 pub leave-place-spec : {M : Type 1} → statement M
@@ -71,9 +71,9 @@ leave-place-spec =
     mul-if1
     element-copy-out-if1
     returns
-    element-copy-out-t23
-    mul-t15
-    element-copy-out-t26
+    element-copy-out-t22
+    mul-t14
+    element-copy-out-t25
     holding-of-requires
     lose-requires
     new-token-requires

@@ -1,31 +1,40 @@
 use Prim.Native.Nat.{_-_}
+use native.Mathlib.Omega.{arith}
 use borrow.Author.Needs.{needs}
+use Rattle.places.proofs.Sweeps.{Sweeps, sweeps-start, sweeps-next, sweeps-step}
 use Rattle.domain.specs.Tables.{stays-on}
-use Rattle.vacating.proofs.Sweeps.{Sweeps, sweeps-start, sweeps-turn}
 use Rattle.vacating.proofs.StoreLaws.{users-swept}
 use Rattle.vacating.proofs.users.leave.Statement.{statement}
 use Rattle.vacating.proofs.users.leave.Tie as tie
 
 abbrev Inv-loop : tie.InvT-loop
-Inv-loop names₀ homes₀ gone n m i₀ names homes i = Sweeps 0 (stays-on gone) 64 names₀ homes₀ i names homes
+Inv-loop names₀ homes₀ gone n m j₀ names homes j =
+    Sweeps 0 (stays-on gone) 64 names₀ homes₀ j names homes
 
 abbrev μ-loop : tie.MeasureT-loop
-μ-loop names₀ homes₀ gone n m i₀ names homes i = 64 - i
+μ-loop names₀ homes₀ gone n m j₀ names homes j = 64 - j
+
+used-from-requires : tie.Need-used-from-requires Inv-loop μ-loop
+used-from-requires c κs = search needs
 
 loop-holds : tie.Need-loop-holds Inv-loop μ-loop
-loop-holds c = sweeps-start 0 (stays-on _) 64 _ _ (search needs) (search needs)
+loop-holds c = let a = c .before .before .before .before .before .before .before .args in
+    sweeps-next 0 (stays-on _) (sweeps-start 0 (stays-on (a .gone)) 64 (a .names .now) (a .homes .now) (search needs) (search needs)) _ (c .used-from .ensures) .1
 
 leave-place-requires : tie.Need-leave-place-requires Inv-loop μ-loop
 leave-place-requires c κs = search needs
 
-add-i : tie.Need-add-i Inv-loop μ-loop
-add-i c = search needs
+add-used-from : tie.Need-add-used-from Inv-loop μ-loop
+add-used-from c = search needs
+
+used-from-requires-2 : tie.Need-used-from-requires-2 Inv-loop μ-loop
+used-from-requires-2 c κs = search needs
 
 loop-less : tie.Need-loop-less Inv-loop μ-loop
-loop-less c = search needs
+loop-less c = omega (arith, sweeps-step 0 (stays-on _) (c .before .before .before .before .before .before .before .loop .inv) (search needs) (c .before .before .before .leave-place .ensures) _ (c .used-from2 .ensures) .0)
 
 loop-again : tie.Need-loop-again Inv-loop μ-loop
-loop-again c = sweeps-turn 0 (stays-on _) (c .before .before .before .before .loop .inv) (search needs) (c .leave-place .ensures)
+loop-again c = sweeps-step 0 (stays-on _) (c .before .before .before .before .before .before .before .loop .inv) (search needs) (c .before .before .before .leave-place .ensures) _ (c .used-from2 .ensures) .1
 
 returns : tie.Need-returns Inv-loop μ-loop
 returns c = users-swept _ _ _ _ _ _ (c .before .loop .inv) (search needs)
@@ -33,4 +42,14 @@ returns c = users-swept _ _ _ _ _ _ (c .before .loop .inv) (search needs)
 pub leave-spec : {M : Type 1} → statement M
 leave-spec =
     tie.close
-    (tie.spec Inv-loop μ-loop loop-holds leave-place-requires add-i loop-less loop-again returns)
+    (tie.spec
+    Inv-loop
+    μ-loop
+    used-from-requires
+    loop-holds
+    leave-place-requires
+    add-used-from
+    used-from-requires-2
+    loop-less
+    loop-again
+    returns)

@@ -1,7 +1,7 @@
 use mathlib.Core.Path.{sym, _∙_}
 use borrow.Author.Needs.{needs}
+use Rattle.places.proofs.Sweeps.{turn-free}
 use Rattle.domain.specs.Tables.{stays-on}
-use Rattle.vacating.proofs.Sweeps.{turn-free}
 use Rattle.vacating.proofs.StoreLaws.{user-leaves, user-stays}
 use Rattle.vacating.proofs.users.leave_place.Statement.{statement}
 use Rattle.vacating.proofs.users.leave_place.Tie as tie
@@ -14,6 +14,9 @@ element-copy-out-if1 c = search needs
 
 returns : tie.Need-returns
 returns c = turn-free 0 (stays-on _) _ _ _ (c .if1 .taken)
+
+cast-has : tie.Need-cast-has
+cast-has c = search needs
 
 has-requires : tie.Need-has-requires
 has-requires c κs = search needs
@@ -40,6 +43,7 @@ leave-place-spec =
     mul-if1
     element-copy-out-if1
     returns
+    cast-has
     has-requires
     mul-names
     element-write-names
