@@ -1,32 +1,18 @@
 -- The table of words: each row is its word and dots, found by what stands before the first dot. Assumes nothing.
-use Prim.Native.Nat.{ℕ, zero, suc, _+_, _-_, _≤_, _<_}
+use Prim.Native.Nat.{ℕ, zero, suc, _+_, _-_, _*_, _≤_, _<_}
 use Prim.Native.String.{String}
 use mathlib.Core.Path.{_≡_, refl, sym, ap, _∙_}
 use mathlib.Core.Bool.{Bool, true, false, cond, not, _&&_}
-use mathlib.Core.List.{List, [], _∷_, _++_, map, append-nil, append-assoc}
+use mathlib.Core.List.{List, [], _∷_, _++_, append-nil, append-assoc}
 use native.Mathlib.Omega.{arith}
 use native.Mathlib.Numerals.{add-one}
-use borrow.Author.Tests.{ne-eqb, eq-eqb, not-true, le-leb, lt-leb}
+use borrow.Author.Tests.{ne-eqb, eq-eqb, not-true, le-leb, lt-leb, leb-true}
 use borrow.Author.Needs.{needs}
-use lib.Dec.{eqb}
-use lib.ListN.{length, take, drop, getD, replicate, drop-of-length-le, List·getD-eq-default}
-use lib.Seq.{drop-cons, take-suc}
+use lib.Dec.{eqb, leb}
+use lib.ListN.{length, take, drop, getD, replicate, length-append, length-replicate, drop-of-length-le, List·getD-eq-default}
+use lib.Seq.{drop-cons, take-suc, take-append-seam, drop-append-add}
 use Rattle.wording.specs.Letters.{ascii}
-use Rattle.wording.specs.Words.{words, word, padded, front, placed, Fronts}
-
--- an entry of a table that is made from another
-pub at-map : {A B : Type 0} (f : A → B) (xs : List A) (d : B) (e : A) (n : ℕ) → n < length xs → getD (map f xs) n d ≡ f (getD xs n e)
-at-map f [] d e n h = absurd (omega arith)
-at-map f (x ∷ xs) d e zero h = refl
-at-map f (x ∷ xs) d e (suc n) h = at-map f xs d e n (omega arith)
-
-pub row-at : (n : ℕ) (d : List ℕ) → n < 125 → getD (map (λ s. padded (ascii s)) words) n d ≡ padded (word n)
-unfolding word words
-row-at n d h = at-map (λ s. padded (ascii s)) words d "?" n h
-
-pub row-none : (n : ℕ) → 125 ≤ n → padded (ascii "?") ≡ padded (word n)
-unfolding word words
-row-none n h = ap (λ s. padded (ascii s)) (sym (List·getD-eq-default words "?" h))
+use Rattle.wording.specs.Words.{words, word, padded, rows-of, rows, front, placed, Fronts}
 
 -- a search for the first dot
 pub record Fronting (s : List ℕ) (i : ℕ) : Type 0 where
@@ -100,6 +86,42 @@ plain-at (w ∷ ws) (suc n) e = plain-at ws n (and-right (plain (ascii w)) (all-
 pub front-word : (n : ℕ) → front (padded (word n)) ≡ word n
 unfolding padded word words all-plain plain ascii
 front-word n = front-plain (word n) (24 - length (word n)) (plain-at words n refl)
+
+-- every word fits its row: a test that is computed over the table
+fit : List String → Bool
+fit [] = true
+fit (w ∷ ws) = leb (length (ascii w)) 24 && fit ws
+
+padded-length : (t : List ℕ) → length t ≤ 24 → length (padded t) ≡ 24
+unfolding padded
+padded-length t h = length-append t (replicate (24 - length t) 46) ∙ rw (length-replicate {A = ℕ} (24 - length t) 46) (omega arith)
+
+-- the row of a word among the rows of some words
+row-of : (ws : List String) (n : ℕ) → fit ws ≡ true → n ≤ length ws → take 24 (drop (n * 24) (rows-of ws)) ≡ padded (ascii (getD ws n "?"))
+unfolding rows-of fit padded ascii
+row-of [] n f h = let none : n ≡ 0 = omega arith in rw none refl
+row-of (w ∷ ws) zero f h =
+    let size = padded-length (ascii w) (leb-true (length (ascii w)) 24 (and-left (leb (length (ascii w)) 24) (fit ws) f)) in
+    ap (λ (k : ℕ). take k (padded (ascii w) ++ rows-of ws)) (sym size) ∙ take-append-seam (padded (ascii w)) (rows-of ws)
+row-of (w ∷ ws) (suc n) f h =
+    let size = padded-length (ascii w) (leb-true (length (ascii w)) 24 (and-left (leb (length (ascii w)) 24) (fit ws) f)) in
+    let next : suc n * 24 ≡ length (padded (ascii w)) + n * 24 = omega (arith, size) in
+    ap (λ (k : ℕ). take 24 (drop k (padded (ascii w) ++ rows-of ws))) next ∙ ap (take 24) (drop-append-add (padded (ascii w)) (rows-of ws) (n * 24))
+    ∙ row-of ws n (and-right (leb (length (ascii w)) 24) (fit ws) f) (omega arith)
+
+pub row-at : (n : ℕ) → n ≤ 125 → take 24 (drop (n * 24) rows) ≡ padded (word n)
+unfolding rows word words fit ascii
+row-at n h = row-of words n refl h
+
+pub row-none : (n : ℕ) → 125 ≤ n → take 24 (drop 3000 rows) ≡ padded (word n)
+unfolding word words
+row-none n h = row-at 125 (omega arith) ∙ ap (λ s. padded (ascii s)) (sym (List·getD-eq-default words "?" h))
+
+-- what stands before the dots of a row is its word
+pub word-of-row : (n r k : ℕ) → take 24 (drop r rows) ≡ padded (word n) → Fronts (take (r + 24 - r) (drop r rows)) k → take k (take (r + 24 - r) (drop r rows)) ≡ word n
+word-of-row n r k e f =
+    let wide : r + 24 - r ≡ 24 = omega arith in
+    f .same ∙ ap (λ (w : ℕ). front (take w (drop r rows))) wide ∙ ap front e ∙ front-word n
 
 -- where a value has its word
 pub placed-past : (group count value : ℕ) → count ≤ value → word 125 ∷ [] ≡ word (placed group count value) ∷ []

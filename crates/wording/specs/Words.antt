@@ -176,6 +176,14 @@ word n = ascii (getD words n "?")
 unfoldable pub padded : List ℕ → List ℕ
 padded t = t ++ replicate (24 - length t) 46
 
+-- the rows of some words, one behind the other, and behind them a row for no word
+unfoldable pub rows-of : List String → List ℕ
+rows-of [] = padded (ascii "?")
+rows-of (w ∷ ws) = padded (ascii w) ++ rows-of ws
+
+unfoldable pub rows : List ℕ
+rows = rows-of words
+
 -- what stands before the first dot
 unfoldable pub front : List ℕ → List ℕ
 front [] = []

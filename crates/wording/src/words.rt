@@ -1,8 +1,10 @@
 // The words for the numbers of T.125 and of document 01: one table, a row of 24 octets a word, the rest of a row dots.
 ghost use mathlib.Core.Path.{_≡_};
 ghost use mathlib.Core.List.{[], _∷_};
+ghost use Prim.Native.Nat.{_≤_};
+ghost use lib.ListN.{take, drop};
 ghost use Rattle.streams.specs.Lines.{Says};
-ghost use Rattle.wording.specs.Words.{word, padded, placed, Fronts};
+ghost use Rattle.wording.specs.Words.{word, padded, rows, placed, Fronts};
 
 // Results, 16 from here on.
 pub const RESULT: usize = 0;
@@ -34,142 +36,142 @@ pub const WHY: usize = 114;
 // No word.
 pub const NONE: usize = 125;
 
-const WORDS: [[u8; 24]; 125] = [
-    *b"successful..............",
-    *b"domain-merging..........",
-    *b"domain-not-hierarchical.",
-    *b"no-such-channel.........",
-    *b"no-such-domain..........",
-    *b"no-such-user............",
-    *b"not-admitted............",
-    *b"other-user-id...........",
-    *b"parameters-unacceptable.",
-    *b"token-not-available.....",
-    *b"token-not-possessed.....",
-    *b"too-many-channels.......",
-    *b"too-many-tokens.........",
-    *b"too-many-users..........",
-    *b"unspecified-failure.....",
-    *b"user-rejected...........",
-    *b"inconsistent-merge......",
-    *b"forbidden-PDU-downward..",
-    *b"forbidden-PDU-upward....",
-    *b"invalid-BER-encoding....",
-    *b"invalid-PER-encoding....",
-    *b"misrouted-user..........",
-    *b"unrequested-confirm.....",
-    *b"wrong-transport-priority",
-    *b"channel-id-conflict.....",
-    *b"token-id-conflict.......",
-    *b"not-user-id-channel.....",
-    *b"too-many-channels.......",
-    *b"too-many-tokens.........",
-    *b"too-many-users..........",
-    *b"domain-disconnected.....",
-    *b"provider-initiated......",
-    *b"token-purged............",
-    *b"user-requested..........",
-    *b"channel-purged..........",
-    *b"notInUse................",
-    *b"selfGrabbed.............",
-    *b"otherGrabbed............",
-    *b"selfInhibited...........",
-    *b"otherInhibited..........",
-    *b"selfRecipient...........",
-    *b"selfGiving..............",
-    *b"otherGiving.............",
-    *b"done....................",
-    *b"ignored.................",
-    *b"not open................",
-    *b"open already............",
-    *b"wrong length............",
-    *b"bad encoding............",
-    *b"may not go up...........",
-    *b"not served..............",
-    *b"too long................",
-    *b"no room.................",
-    *b"bad limit...............",
-    *b"bad frame...............",
-    *b"result..................",
-    *b"diagnostic..............",
-    *b"reason..................",
-    *b"status..................",
-    *b"channel.................",
-    *b"initiator...............",
-    *b"token...................",
-    *b"height..................",
-    *b"requested...............",
-    *b"recipient...............",
-    *b"interval................",
-    *b"channels................",
-    *b"users...................",
-    *b"octets..................",
-    *b"number..................",
-    *b"end.....................",
-    *b"PDin....................",
-    *b"EDrq....................",
-    *b"MCrq....................",
-    *b"MCcf....................",
-    *b"PCin....................",
-    *b"MTrq....................",
-    *b"MTcf....................",
-    *b"PTin....................",
-    *b"DPum....................",
-    *b"RJum....................",
-    *b"AUrq....................",
-    *b"AUcf....................",
-    *b"DUrq....................",
-    *b"DUin....................",
-    *b"CJrq....................",
-    *b"CJcf....................",
-    *b"CLrq....................",
-    *b"CCrq....................",
-    *b"CCcf....................",
-    *b"CDrq....................",
-    *b"CDin....................",
-    *b"CArq....................",
-    *b"CAin....................",
-    *b"CErq....................",
-    *b"CEin....................",
-    *b"SDrq....................",
-    *b"SDin....................",
-    *b"USrq....................",
-    *b"USin....................",
-    *b"TGrq....................",
-    *b"TGcf....................",
-    *b"TIrq....................",
-    *b"TIcf....................",
-    *b"TVrq....................",
-    *b"TVin....................",
-    *b"TVrs....................",
-    *b"TVcf....................",
-    *b"TPrq....................",
-    *b"TPin....................",
-    *b"TRrq....................",
-    *b"TRcf....................",
-    *b"TTrq....................",
-    *b"TTcf....................",
-    *b"no such message.........",
-    *b"octets are missing......",
-    *b"skipped bits are not 0..",
-    *b"value out of range......",
-    *b"length in the long form.",
-    *b"fragmented length.......",
-    *b"list above 64 ids.......",
-    *b"number of 0 octets......",
-    *b"number above 4 octets...",
-    *b"more octets than needed.",
-    *b"octets are left over....",
-];
+// The width of a row.
+const WIDTH: usize = 24;
 
-// The row of a word; of a number above the last, a question mark.
-fn row(n: usize) -> [u8; 24]
-    ensures { λ r. ⌜ r ≡ padded (word n) ⌝ }
+// The rows one behind the other; the last is for no word.
+const ROWS: [u8; 3024] = *b"successful..............\
+    domain-merging..........\
+    domain-not-hierarchical.\
+    no-such-channel.........\
+    no-such-domain..........\
+    no-such-user............\
+    not-admitted............\
+    other-user-id...........\
+    parameters-unacceptable.\
+    token-not-available.....\
+    token-not-possessed.....\
+    too-many-channels.......\
+    too-many-tokens.........\
+    too-many-users..........\
+    unspecified-failure.....\
+    user-rejected...........\
+    inconsistent-merge......\
+    forbidden-PDU-downward..\
+    forbidden-PDU-upward....\
+    invalid-BER-encoding....\
+    invalid-PER-encoding....\
+    misrouted-user..........\
+    unrequested-confirm.....\
+    wrong-transport-priority\
+    channel-id-conflict.....\
+    token-id-conflict.......\
+    not-user-id-channel.....\
+    too-many-channels.......\
+    too-many-tokens.........\
+    too-many-users..........\
+    domain-disconnected.....\
+    provider-initiated......\
+    token-purged............\
+    user-requested..........\
+    channel-purged..........\
+    notInUse................\
+    selfGrabbed.............\
+    otherGrabbed............\
+    selfInhibited...........\
+    otherInhibited..........\
+    selfRecipient...........\
+    selfGiving..............\
+    otherGiving.............\
+    done....................\
+    ignored.................\
+    not open................\
+    open already............\
+    wrong length............\
+    bad encoding............\
+    may not go up...........\
+    not served..............\
+    too long................\
+    no room.................\
+    bad limit...............\
+    bad frame...............\
+    result..................\
+    diagnostic..............\
+    reason..................\
+    status..................\
+    channel.................\
+    initiator...............\
+    token...................\
+    height..................\
+    requested...............\
+    recipient...............\
+    interval................\
+    channels................\
+    users...................\
+    octets..................\
+    number..................\
+    end.....................\
+    PDin....................\
+    EDrq....................\
+    MCrq....................\
+    MCcf....................\
+    PCin....................\
+    MTrq....................\
+    MTcf....................\
+    PTin....................\
+    DPum....................\
+    RJum....................\
+    AUrq....................\
+    AUcf....................\
+    DUrq....................\
+    DUin....................\
+    CJrq....................\
+    CJcf....................\
+    CLrq....................\
+    CCrq....................\
+    CCcf....................\
+    CDrq....................\
+    CDin....................\
+    CArq....................\
+    CAin....................\
+    CErq....................\
+    CEin....................\
+    SDrq....................\
+    SDin....................\
+    USrq....................\
+    USin....................\
+    TGrq....................\
+    TGcf....................\
+    TIrq....................\
+    TIcf....................\
+    TVrq....................\
+    TVin....................\
+    TVrs....................\
+    TVcf....................\
+    TPrq....................\
+    TPin....................\
+    TRrq....................\
+    TRcf....................\
+    TTrq....................\
+    TTcf....................\
+    no such message.........\
+    octets are missing......\
+    skipped bits are not 0..\
+    value out of range......\
+    length in the long form.\
+    fragmented length.......\
+    list above 64 ids.......\
+    number of 0 octets......\
+    number above 4 octets...\
+    more octets than needed.\
+    octets are left over....\
+    ?.......................";
+
+// Where the row of a word starts; of a number above the last word, the last row.
+fn start_of(n: usize) -> usize
+    ensures { λ r. ⌜ (r ≤ 3000) × (take 24 (drop r rows) ≡ padded (word n)) ⌝ }
 {
-    if n < NONE {
-        return WORDS[n];
-    }
-    *b"?......................."
+    if n < NONE { n * WIDTH } else { NONE * WIDTH }
 }
 
 // How many octets stand before the first dot.
@@ -190,10 +192,12 @@ fn size_of(row: &[u8]) -> usize
 pub fn say_word(out: &mut [u8], filled: usize, n: usize) -> usize
     ensures { λ r. ⌜ Says (now (out .entry)) filled (word n ∷ []) (now (out .exit)) r ⌝ }
 {
-    let text = row(n);
-    let all = &text[..];
-    let k = size_of(all);
-    streams::lines::say(out, filled, &all[..k])
+    let table = ROWS;
+    let from = start_of(n);
+    let to = from + WIDTH;
+    let row = &table[from..to];
+    let k = size_of(row);
+    streams::lines::say(out, filled, &row[..k])
 }
 
 // Says the word for a value among so many from a group's first on; for any other, a question mark.

@@ -1,25 +1,36 @@
--- `wording::words::say_word` meets its contract: what stands before the dots of a row is the word. Assumes nothing.
-use Rattle.wording.proofs.WordLaws.{front-word}
-use Rattle.wording.specs.Words.{front}
+-- `wording::words::say_word` meets its contract: what stands before the dots of a row is the word; that the table has the rows of the words is computed.
+-- Assumes nothing.
+use Rattle.wording.proofs.WordLaws.{word-of-row}
+use Rattle.wording.specs.Letters.{ascii}
+use Rattle.wording.specs.Words.{words, padded, rows-of, rows}
 use Rattle.streams.proofs.Saying.{says-as}
 use lib.Seq.{length-take-le}
 use mathlib.Core.List.{[], _∷_}
-use mathlib.Core.Path.{sym, ap, _∙_}
+use mathlib.Core.Path.{sym, ap}
 use borrow.Author.Needs.{needs}
 use Rattle.wording.proofs.words.say_word.Statement.{statement}
 use Rattle.wording.proofs.words.say_word.Tie as tie
 
-row-requires : tie.Need-row-requires
-row-requires c κs = search needs
+start-of-requires : tie.Need-start-of-requires
+start-of-requires c κs = search needs
 
-slice-aggregate-all : tie.Need-slice-aggregate-all
-slice-aggregate-all c = search needs
+add-to : tie.Need-add-to
+add-to c = search needs
+
+sub-row : tie.Need-sub-row
+sub-row c = search needs
+
+part-row-start : tie.Need-part-row-start
+part-row-start c = search needs
+
+part-row-end : tie.Need-part-row-end
+part-row-end c = search needs
 
 size-of-requires : tie.Need-size-of-requires
 size-of-requires c κs = search needs
 
 slice-aggregate-say : tie.Need-slice-aggregate-say
-slice-aggregate-say c = sym (length-take-le (c .before .before .size-of .result) (c .before .before .before .before .row .result) (c .before .before .size-of .ensures .inside))
+slice-aggregate-say c = sym (length-take-le (c .before .before .size-of .result) _ (c .before .before .size-of .ensures .inside))
 
 say-requires : tie.Need-say-requires
 say-requires c κs = search needs
@@ -28,14 +39,21 @@ same-length : tie.Need-same-length
 same-length c = search needs
 
 returns : tie.Need-returns
-returns c = says-as (c .before .before .say .ensures) (ap (λ l. l ∷ []) (c .before .before .before .before .before .size-of .ensures .same ∙ ap front (c .before .before .before .before .before .before .before .row .ensures) ∙ front-word (c .before .before .before .before .before .before .before .before .before .args .n)))
+unfolding rows rows-of words padded ascii
+returns c =
+    let start = c .before .before .before .before .before .before .before .before .start-of in
+    let size = c .before .before .before .before .before .size-of in
+    says-as (c .before .before .say .ensures) (ap (λ l. l ∷ []) (word-of-row (c .before .before .before .before .before .before .before .before .before .before .args .n) (start .result) (size .result) (start .ensures .1) (size .ensures)))
 
 pub say-word-spec : {M : Type 1} → statement M
 say-word-spec =
     tie.close
     (tie.spec
-    row-requires
-    slice-aggregate-all
+    start-of-requires
+    add-to
+    sub-row
+    part-row-start
+    part-row-end
     size-of-requires
     slice-aggregate-say
     say-requires
