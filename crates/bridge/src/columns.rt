@@ -12,7 +12,7 @@ ghost use Rattle.provider.specs.Provider.{understood};
 use crate::Answered;
 use domain::Limits;
 use domain::answer::Answer;
-use domain::numbers::reply_number;
+use states::numbers::reply_number;
 
 // The limits are taken, and every column cleared; a limit out of range leaves them all.
 pub fn start<'a>(

@@ -50,7 +50,7 @@ pub fn refused(a: Answer) -> bool
     ensures { λ r. ⌜ r ≡ eqb (replyNumber (a .reply)) 9 ⌝ }
 {
     let reply = a.reply;
-    domain::numbers::reply_number(reply) == 9
+    states::numbers::reply_number(reply) == 9
 }
 
 // A message to p, where there is room for its record.

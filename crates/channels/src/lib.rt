@@ -62,7 +62,7 @@ pub fn attach(
         return a;
     }
     tables::users::add_user(names, homes, new, p);
-    let ch = domain::channel::new_channel(Kind::User, 0);
+    let ch = states::channel::new_channel(Kind::User, 0);
     tables::channels::add_channel(ids, roles, chairs, guests, marks, new, ch);
     a
 }
@@ -86,8 +86,8 @@ fn join_at(
         (may (kind (channel (channels-of ids (now (roles .entry)) (now (chairs .entry)) (now (guests .entry)) (now (marks .entry))) j)) c u i)) (now (out .entry))) ⌝ }
 {
     let ch = tables::channels::channel_at(roles, chairs, guests, marks, j);
-    let result = domain::channel::may_join(domain::channel::kind_of(ch), c, u, i);
-    if 0 < domain::numbers::result_number(result) {
+    let result = states::channel::may_join(states::channel::kind_of(ch), c, u, i);
+    if 0 < states::numbers::result_number(result) {
         return confirms::deny_join(out, p, result, u, c);
     }
     let a = confirms::take_join(out, p, u, c, c);
@@ -127,7 +127,7 @@ fn start(
     if answers::refused(a) {
         return a;
     }
-    let ch = domain::channel::new_channel(k, places::masks::link(p));
+    let ch = states::channel::new_channel(k, places::masks::link(p));
     tables::channels::add_channel(ids, roles, chairs, guests, marks, new, ch);
     a
 }
@@ -267,7 +267,7 @@ fn ends(ch: Channel, left: u16) -> bool
     ensures { λ r. ⌜ r ≡ (lapses (kind ch) && eqb left 0) ⌝ }
 {
     if left == 0 {
-        return domain::channel::lapses(domain::channel::kind_of(ch));
+        return states::channel::lapses(states::channel::kind_of(ch));
     }
     false
 }

@@ -1,4 +1,4 @@
-// What stands at a place of a table, and what one request makes of it.
+// What stands at a place of a table, and what an event is answered with.
 pub mod answer;
 pub mod channel;
 pub mod numbers;

@@ -59,7 +59,7 @@ fn kind_of(
     let n = ids[..].len();
     let m = roles[..].len();
     let j = places::columns::find(ids, c);
-    domain::channel::kind_of(tables::channels::channel_at(roles, chairs, guests, marks, j))
+    states::channel::kind_of(tables::channels::channel_at(roles, chairs, guests, marks, j))
 }
 
 // CDin to those that remain of the connections that held the manager g or an admitted user.
@@ -228,9 +228,9 @@ fn put_refusal(
     ensures { λ n. ⌜ Puts (now (out .entry)) at (recordsOf (to (link (users-of (now (names .entry)) (now (homes .entry))) g)
         (TVcf no-such-user (name (users-of (now (names .entry)) (now (homes .entry))) g) k (statusOf (loseOf gone (Giving g r)) g)) ∷ [])) (now (out .exit)) n ⌝ }
 {
-    let h = domain::token::lose(gone, Holding::Giving(g, r));
-    let s = domain::numbers::status_number(domain::token::status(h, g));
-    let n = domain::numbers::result_number(Result::NoSuchUser);
+    let h = states::token::lose(gone, Holding::Giving(g, r));
+    let s = states::numbers::status_number(states::token::status(h, g));
+    let n = states::numbers::result_number(Result::NoSuchUser);
     let m = records::compose::token_confirm(Confirm::Give, n, name_at(names, g), k, s);
     records::send(out, at, home_at(homes, g), &m)
 }

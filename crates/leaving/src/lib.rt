@@ -230,7 +230,7 @@ pub fn close(
         (closeOf (domain-of l (now (links .entry)) (now (names .entry)) (now (homes .entry)) (now (ids .entry)) (now (roles .entry))
         (now (chairs .entry)) (now (guests .entry)) (now (marks .entry)) (now (keys .entry)) (now (modes .entry)) (now (values .entry))) p) (now (out .entry))) ⌝ }
 {
-    let reason = domain::numbers::reason_number(Reason::DomainDisconnected);
+    let reason = states::numbers::reason_number(Reason::DomainDisconnected);
     let mut list = [0u16; 64];
     let n = leavers::all_on(names, homes, p, &mut list);
     let live = places::masks::without_link(*links, p);

@@ -36,8 +36,8 @@ fn taken(how: Taking, full: bool, h: Holding, i: u8) -> Turned
     ensures { λ r. ⌜ turnedOf r ≡ taken-by how full h i ⌝ }
 {
     match how {
-        Taking::Alone => domain::token::grab(full, h, i),
-        Taking::Together => domain::token::inhibit(full, h, i),
+        Taking::Alone => states::token::grab(full, h, i),
+        Taking::Together => states::token::inhibit(full, h, i),
     }
 }
 
@@ -55,7 +55,7 @@ fn confirmed(how: Taking) -> Confirm
 fn full_for(h: Holding, limit: u8, keys: &[u16; 64]) -> bool
     ensures { λ r. ⌜ (is-free h ≡ true → r ≡ at-limit limit (now (keys .entry))) ⌝ }
 {
-    if domain::token::free(h) {
+    if states::token::free(h) {
         return full(limit, keys);
     }
     false
@@ -180,7 +180,7 @@ pub fn release(
         };
     }
     let h = tables::tokens::state(keys, modes, values, k);
-    let t = domain::token::release(h, i);
+    let t = states::token::release(h, i);
     turn(keys, modes, values, Confirm::Release, p, u, i, k, h, t, out)
 }
 
@@ -215,7 +215,7 @@ pub fn offer(
             sent: 0,
         };
     }
-    if domain::token::has_grabbed(h, i) {
+    if states::token::has_grabbed(h, i) {
         return give(
             names,
             homes,
@@ -231,7 +231,7 @@ pub fn offer(
             out,
         );
     }
-    let why = domain::numbers::result_number(Result::TokenNotPossessed);
+    let why = states::numbers::result_number(Result::TokenNotPossessed);
     confirm(out, p, Confirm::Give, why, u, k, h, i)
 }
 
@@ -260,9 +260,9 @@ pub fn answer(
         };
     }
     let h = tables::tokens::state(keys, modes, values, k);
-    if domain::token::is_offered(h, i) {
+    if states::token::is_offered(h, i) {
         let n = result % 16;
-        let after = domain::token::answered(n == 0, h, i);
+        let after = states::token::answered(n == 0, h, i);
         return conclude(names, homes, keys, modes, values, n, k, h, after, out);
     }
     Answer {
@@ -295,7 +295,7 @@ pub fn please(
         };
     }
     let h = tables::tokens::state(keys, modes, values, k);
-    let mask = tables::users::hosts(names, homes, domain::token::party(h));
+    let mask = tables::users::hosts(names, homes, states::token::party(h));
     let m = records::compose::please_indication(u, k);
     tell(out, mask, &m)
 }
@@ -330,7 +330,7 @@ pub fn test(
             sent: 0,
         };
     }
-    let status = domain::numbers::status_number(domain::token::status(h, i));
+    let status = states::numbers::status_number(states::token::status(h, i));
     let m = records::compose::test_confirm(u, k, status);
     send(out, p, &m)
 }
@@ -396,7 +396,7 @@ fn confirm(
     ensures { λ r. ⌜ ((before after : Tokens) → answered r after (now (out .exit))
         ≡ settle before (done after (to q (confirmOf kind result user token (statusOf h i)) ∷ [])) (now (out .entry))) ⌝ }
 {
-    let status = domain::numbers::status_number(domain::token::status(h, i));
+    let status = states::numbers::status_number(states::token::status(h, i));
     let m = records::compose::token_confirm(kind, result, user, token, status);
     send(out, q, &m)
 }
@@ -436,7 +436,7 @@ fn turn(
     }
     match t {
         Turned::Fails(why) => {
-            let result = domain::numbers::result_number(why);
+            let result = states::numbers::result_number(why);
             confirm(out, p, kind, result, u, k, h, i)
         }
         Turned::Turns(after) => {
@@ -498,7 +498,7 @@ fn give(
         tables::tokens::set_state(keys, modes, values, k, Holding::Giving(i, j));
         return send(out, q, &m);
     }
-    let why = domain::numbers::result_number(Result::NoSuchUser);
+    let why = states::numbers::result_number(Result::NoSuchUser);
     confirm(out, p, Confirm::Give, why, u, k, h, i)
 }
 

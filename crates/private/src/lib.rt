@@ -52,7 +52,7 @@ pub fn convene(
     if answers::refused(a) {
         return a;
     }
-    let ch = domain::channel::new_channel(Kind::Private(i as u8, 0), 0);
+    let ch = states::channel::new_channel(Kind::Private(i as u8, 0), 0);
     tables::channels::add_channel(ids, roles, chairs, guests, marks, new, ch);
     a
 }
@@ -62,7 +62,7 @@ fn presides(ch: Channel, i: u8) -> bool
     ensures { λ r. ⌜ (r ≡ true → (act : (ℕ → ℕ → Effect Channels)) → owned (kind ch) i act ≡ act (ch .chair) (ch .guests))
         × (r ≡ false → (act : (ℕ → ℕ → Effect Channels)) → owned (kind ch) i act ≡ ignoredBy) ⌝ }
 {
-    let k = domain::channel::kind_of(ch);
+    let k = states::channel::kind_of(ch);
     match k {
         Kind::Private(_, _) => ch.chair == i,
         Kind::Static => false,

@@ -90,7 +90,7 @@ pub fn message(
     let mut listed = [0u16; 64];
     let u = reading::understand(octets, &mut listed);
     let reply = u.reply;
-    if domain::numbers::reply_number(reply) != 0 {
+    if states::numbers::reply_number(reply) != 0 {
         return reception::refusing::refuse(p, reply, octets, out);
     }
     requests::request(

@@ -29,13 +29,13 @@ pub fn refuse(p: u8, reply: Reply, octets: &[u8], out: &mut [u8]) -> Answer
     ensures { λ r. ⌜ ((d : Domain) → answered r d (now (out .exit))
         ≡ sends (replyNumber reply) d d (complaint (replyNumber reply) p (now (octets .entry))) (now (out .entry))) ⌝ }
 {
-    let n = domain::numbers::reply_number(reply);
+    let n = states::numbers::reply_number(reply);
     if n == 5 {
-        let invalid = domain::numbers::diagnostic_number(Diagnostic::InvalidPer);
+        let invalid = states::numbers::diagnostic_number(Diagnostic::InvalidPer);
         return reject(p, reply, invalid, octets, out);
     }
     if n == 6 {
-        let forbidden = domain::numbers::diagnostic_number(Diagnostic::ForbiddenUpward);
+        let forbidden = states::numbers::diagnostic_number(Diagnostic::ForbiddenUpward);
         return reject(p, reply, forbidden, octets, out);
     }
     Answer {

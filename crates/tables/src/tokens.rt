@@ -14,7 +14,7 @@ pub fn state(keys: &[u16; 64], modes: &[u8; 64], values: &[u64; 64], k: u16) -> 
     let ms = &modes[..];
     let vs = &values[..];
     if i < ms.len() {
-        return domain::token::holding_of(Token {
+        return states::token::holding_of(Token {
             mode: ms[i],
             value: vs[i],
         });
@@ -34,11 +34,11 @@ pub fn set_state(
         ≡ set-token (tokens-of (now (keys .entry)) (now (modes .entry)) (now (values .entry))) k h ⌝ }
 {
     let i = places::columns::find(keys, k);
-    if domain::token::free(h) {
+    if states::token::free(h) {
         store(keys, modes, values, i, 0, Token { mode: 0, value: 0 });
         return;
     }
-    let t = domain::token::new_token(h);
+    let t = states::token::new_token(h);
     if i < 64 {
         store(keys, modes, values, i, k, t);
     } else {

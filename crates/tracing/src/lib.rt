@@ -125,7 +125,7 @@ fn take_frame(
             more: false,
         },
         Frame::Bad => Taken {
-            reply: domain::numbers::reply_number(Reply::BadFrame) as u64,
+            reply: states::numbers::reply_number(Reply::BadFrame) as u64,
             sent: 0,
             size: 0,
             line: true,
@@ -157,7 +157,7 @@ fn take_frame(
             );
             let reply = a.reply;
             Taken {
-                reply: domain::numbers::reply_number(reply) as u64,
+                reply: states::numbers::reply_number(reply) as u64,
                 sent: a.sent,
                 size,
                 line: true,

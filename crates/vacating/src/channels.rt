@@ -21,7 +21,7 @@ pub enum Fate {
 fn marked(ch: Channel, m: u16) -> Fate
     ensures { λ r. ⌜ fateOf r ≡ markedOf ch m ⌝ }
 {
-    let lapses = domain::channel::lapses(domain::channel::kind_of(ch));
+    let lapses = states::channel::lapses(states::channel::kind_of(ch));
     if lapses {
         if m == 0 {
             return Fate::Ends;
@@ -66,7 +66,7 @@ fn fate_of(names: &[u16; 64], homes: &[u8; 64], gone: u64, live: u16, c: u16, ch
     ensures { λ r. ⌜ fateOf r ≡ fateIn (users-of (now (names .entry)) (now (homes .entry))) gone live c ch ⌝ }
 {
     let m = places::masks::common_links(ch.marks, live);
-    let k = domain::channel::kind_of(ch);
+    let k = states::channel::kind_of(ch);
     match k {
         Kind::Static => marked(ch, m),
         Kind::User => {

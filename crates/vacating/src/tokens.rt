@@ -26,17 +26,17 @@ fn leave_place(
     if keys[j] == 0 {
         return;
     }
-    let h = domain::token::lose(
+    let h = states::token::lose(
         gone,
-        domain::token::holding_of(Token {
+        states::token::holding_of(Token {
             mode: modes[j],
             value: values[j],
         }),
     );
-    let t = domain::token::new_token(h);
+    let t = states::token::new_token(h);
     modes[j] = t.mode;
     values[j] = t.value;
-    if domain::token::free(h) {
+    if states::token::free(h) {
         keys[j] = 0;
     }
 }
