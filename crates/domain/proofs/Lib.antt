@@ -1,5 +1,6 @@
 pub mod CellLaws
 pub mod Effects
 pub mod Opened
+pub mod Listed
 pub mod invariant
 pub mod holders

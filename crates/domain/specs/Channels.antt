@@ -6,14 +6,14 @@ use mathlib.Core.List.{List, [], _∷_}
 use mathlib.Core.Option.{Option, none, some}
 use lib.Dec.{eqb, ltb}
 use Rattle.places.specs.Sets.{if_then_else_, keep, any, null, each, below, member, once, has, those, with, without, minus, meet, union, only, links, seats}
-use Rattle.places.specs.Places.{At, Nowhere, find, found, load}
+use Rattle.places.specs.Places.{Place, At, Nowhere, find, found, load}
 use Rattle.messages.specs.Named.{Message, AUcf, CJcf, CCcf, CDin, CAin, CEin, successful, no-such-channel, not-admitted, other-user-id, too-many-channels, too-many-users}
 use Rattle.records.specs.Records.{Sent, to, tell}
 use Rattle.domain.specs.declared.channel.Kind.{Kind}
 use Rattle.domain.specs.declared.channel.Kind.the-variants.{Static, User, Private, Assigned}
 use Rattle.domain.specs.declared.channel.Channel.{Channel}
 use Rattle.domain.specs.Cells.{no-channel, kind, channel-of, with-marks, with-guests}
-use Rattle.domain.specs.Tables.{Users, Channels, name, attached, add-user, hosts, channel, add-channel, set-channel, end-channel, sweep-channels, marked}
+use Rattle.domain.specs.Tables.{Users, Channels, attached, add-user, hosts, channel, add-channel, set-channel, end-channel, sweep-channels, marked}
 use Rattle.domain.specs.Effects.{Effect, ignored, done, from}
 
 -- AUrq. At the user limit too-many-users, else at the channel limit too-many-channels, else a user with its user id channel. AUcf to p
@@ -84,9 +84,12 @@ manages us cs p u c act = from us p u λ i. elim (find (cs .ids) c) [
 unfoldable pub disband : (us : Users) (cs : Channels) (p u c : ℕ) → Effect Channels
 disband us cs p u c = manages us cs p u c λ j m adm. done (end-channel cs j) (tell (hosts us (with seats adm m)) (CDin c))
 
--- the places of listed users
+-- place i is where a user stands; the places of listed users
+abbrev pub stands : (i : ℕ) (at : Place) → Bool
+stands i at = elim at [ At j ↦ eqb j i | Nowhere ↦ false ]
+
 unfoldable pub places : Users → List ℕ → ℕ
-places us ids = those seats λ i. member (name us i) ids
+places us ids = those seats λ i. any (λ u. stands i (find (us .ids) u)) ids
 
 -- to each connection with such ids, its own only, in list order
 unfoldable pub own : (us : Users) (ids : List ℕ) (say : (List ℕ → Message)) → List Sent

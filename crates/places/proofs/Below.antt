@@ -1,6 +1,6 @@
 -- The numbers below n: all of them pass a test, some does, or the first that does.
 use mathlib.Core.Path.{_≡_, refl, ap, _∙_}
-use mathlib.Core.Bool.{Bool, true, false, or-true}
+use mathlib.Core.Bool.{Bool, true, false, false≢true, or-true}
 use mathlib.Core.List.{List, [], _∷_}
 use Prim.Native.Nat.{ℕ, zero, suc, _<_}
 use native.Mathlib.Omega.{arith}
@@ -44,6 +44,17 @@ pub any-none : (f : ℕ → Bool) → ((u : ℕ) → f u ≡ false) → (xs : Li
 unfolding any
 any-none f q [] = refl
 any-none f q (x ∷ xs) = rw (q x) (any-none f q xs)
+
+-- tests that agree; one that passes
+pub any-same : (f g : ℕ → Bool) → ((x : ℕ) → f x ≡ g x) → (xs : List ℕ) → any f xs ≡ any g xs
+unfolding any
+any-same f g e [] = refl
+any-same f g e (x ∷ xs) = rw (e x, any-same f g e xs)
+
+pub any-elim : {C : Type 0} (f : ℕ → Bool) (xs : List ℕ) → any f xs ≡ true → ((x : ℕ) → f x ≡ true → C) → C
+unfolding any
+any-elim f [] e g = absurd (false≢true e)
+any-elim f (x ∷ xs) e g = or-elim (f x) (any f xs) e (g x) (λ r. any-elim f xs r g)
 
 -- one of the numbers below n, or one of the rest
 pub any-upto : {C : Type 0} (f : ℕ → Bool) (n : ℕ) (rest : List ℕ) → any f (upto n rest) ≡ true

@@ -1,6 +1,6 @@
--- Members of a list of ids: by their places, and of what is kept of it.
+-- Members of a list of ids: by their places, of what is kept of it, and each once.
 use mathlib.Core.Path.{_≡_, refl, sym, ap, _∙_}
-use mathlib.Core.Bool.{Bool, true, false, _&&_, _||_, false≢true, or-true, and-false}
+use mathlib.Core.Bool.{Bool, true, false, not, _&&_, _||_, false≢true, or-true, and-false, and-true}
 use mathlib.Core.List.{List, [], _∷_}
 use Prim.Native.Nat.{ℕ, zero, suc, _<_}
 use native.Mathlib.Omega.{arith}
@@ -8,7 +8,7 @@ use native.Mathlib.Nat.{le-of-suc-le-suc}
 use lib.Dec.{eqb}
 use lib.ListN.{length, getD}
 use borrow.Author.Tests.{eq-eqb, eqb-true}
-use Rattle.places.specs.Sets.{if_then_else_, any, member, keep}
+use Rattle.places.specs.Sets.{if_then_else_, any, member, keep, firsts, once}
 use Rattle.places.proofs.Bools.{or-elim}
 
 pub member-at : (ids : List ℕ) (i : ℕ) → i < length ids → member (getD ids i 0) ids ≡ true
@@ -33,3 +33,19 @@ member-keep f u (x ∷ xs) = go (f x) refl (eqb u x) refl (member-keep f u xs)
     go true p false q h = rw q h
     go false p true q h = h ∙ rw (ap f (eqb-true u x q) ∙ p)
     go false p false q h = h
+
+member-firsts : (u : ℕ) (before xs : List ℕ) → member u (firsts before xs) ≡ (member u xs && not (member u before))
+unfolding member any firsts
+member-firsts u before [] = refl
+member-firsts u before (x ∷ xs) = go (member x before) refl (eqb u x) refl (member-firsts u (x ∷ before) xs)
+  where
+    go : (b : Bool) → member x before ≡ b → (c : Bool) → eqb u x ≡ c → member u (firsts (x ∷ before) xs) ≡ (member u xs && not (eqb u x || member u before))
+        → member u (if b then firsts (x ∷ before) xs else x ∷ firsts (x ∷ before) xs) ≡ ((c || member u xs) && not (member u before))
+    go true p true q h = h ∙ rw (q, ap (λ (v : ℕ). member v before) (eqb-true u x q) ∙ p) (and-false (member u xs))
+    go true p false q h = h ∙ rw q
+    go false p true q h = rw (q, ap (λ (v : ℕ). member v before) (eqb-true u x q) ∙ p)
+    go false p false q h = rw (q, h) (rw q)
+
+pub member-once : (u : ℕ) (xs : List ℕ) → member u (once xs) ≡ member u xs
+unfolding once member any
+member-once u xs = member-firsts u [] xs ∙ and-true (member u xs)

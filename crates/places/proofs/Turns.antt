@@ -4,10 +4,10 @@ use mathlib.Core.Bool.{Bool, true, false}
 use mathlib.Core.List.{List, [], _∷_, _++_}
 use Prim.Native.Nat.{ℕ, zero, suc, _+_, _-_, _≤_, _<_}
 use native.Mathlib.Omega.{arith}
-use lib.Dec.{eqb, ltb}
+use lib.Dec.{ltb}
 use lib.ListN.{length, getD, take, drop, drop-of-length-le, length-append, length-take}
 use lib.Seq.{drop-cons, take-suc, take-all, take-add}
-use borrow.Author.Tests.{eq-eqb, ne-eqb, eqb-true, lt-ltb, le-ltb, ltb-true, ltb-false}
+use borrow.Author.Tests.{eq-eqb, ne-eqb, lt-ltb, le-ltb, ltb-true, ltb-false}
 use Rattle.places.specs.Sets.{if_then_else_, keep, any, upto, member, has, listed}
 use Rattle.places.specs.Places.{Place, At, Nowhere, find, used, lesser, next, rising, unused}
 use Rattle.places.proofs.Order.{keep-le}
@@ -153,14 +153,6 @@ module _ (x : ℕ) (ids : List ℕ) (i : ℕ) where
   pub member-end : length ids ≤ i → member x (drop i ids) ≡ false
   unfolding member any
   member-end h = rw (drop-of-length-le ids h)
-
--- what is known of 0 need not be looked for
-pub among-is : (x : ℕ) (ids : List ℕ) (z : Bool) → z ≡ member 0 ids → (if eqb x 0 then z else member x ids) ≡ member x ids
-among-is x ids z e = go (eqb x 0) refl
-  where
-    go : (b : Bool) → eqb x 0 ≡ b → (if b then z else member x ids) ≡ member x ids
-    go true q = e ∙ ap (λ (y : ℕ). member y ids) (sym (eqb-true x 0 q))
-    go false q = refl
 
 -- ---- a free id
 

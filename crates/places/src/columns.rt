@@ -3,9 +3,8 @@ ghost use mathlib.Core.Path.{_≡_};
 ghost use mathlib.Core.Bool.{true, false};
 ghost use mathlib.Core.List.{[], _∷_};
 ghost use Prim.Native.Nat.{_+_, _-_, _*_, _<_, _≤_};
-ghost use lib.Dec.{eqb};
 ghost use lib.ListN.{length, drop};
-ghost use Rattle.places.specs.Sets.{if_then_else_, member as memberOf};
+ghost use Rattle.places.specs.Sets.{member as memberOf};
 ghost use Rattle.places.specs.Places.{first as firstIn, busy, InRow, find as findIn, found, spare as spareIn, used as usedIn, next as nextIn, number, unused as unusedIn};
 
 // One of the two, four, eight places from i on holds x. They are looked at together: no branch stands between them.
@@ -225,16 +224,6 @@ pub fn member(ids: &[u16], x: u16) -> bool
         i += 1;
     }
     false
-}
-
-// An id is in a list, where it is known whether 0 is: most places of a table are free, and none of them is then looked for.
-pub fn among(ids: &[u16], free: bool, x: u16) -> bool
-    ensures { λ r. ⌜ r ≡ (if eqb x 0 then free else memberOf x (now (ids .entry))) ⌝ }
-{
-    if x == 0 {
-        return free;
-    }
-    member(ids, x)
 }
 
 // A place of x: the one it is looked for first, if it stands there, else the one found; the length is nowhere.

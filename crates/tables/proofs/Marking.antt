@@ -1,62 +1,50 @@
--- A mask made place by place: of the places looked at, those that pass. So the places of listed users are found. Assumes nothing.
+-- The places of listed users, as a mask to which the place of one user more is added at a time. Assumes nothing.
 use mathlib.Core.Path.{_≡_, refl, sym, ap, _∙_}
-use mathlib.Core.Bool.{Bool, true, false, _&&_, _||_, or-false, or-true}
-use mathlib.Core.List.{List}
-use Prim.Native.Nat.{ℕ, _+_, _^_, _≤_, _<_, zero-le}
+use mathlib.Core.Bool.{Bool, true, false, _||_, or-false}
+use mathlib.Core.List.{List, [], _∷_, _++_}
+use Prim.Native.Nat.{ℕ, _+_, _<_, zero-le}
+use native.Mathlib.Numerals.{add-one}
 use native.Mathlib.Omega.{arith}
-use borrow.Author.Tests.{lt-ltb, le-ltb, ltb-true, ltb-false, eqb-true, eqb-false}
-use lib.Dec.{eqb, ltb}
-use lib.ListN.{getD}
-use Rattle.places.specs.Sets.{if_then_else_, member, has, those, with, seats}
-use Rattle.places.proofs.Digits.{has-high, has-with, is-those, those-lt}
-use Rattle.domain.specs.Tables.{users-of, name}
-use Rattle.domain.specs.Channels.{places}
+use borrow.Author.Tests.{ne-eqb}
+use lib.Dec.{eqb}
+use lib.ListN.{length, getD, take}
+use lib.Seq.{take-suc}
+use Rattle.places.specs.Sets.{any, has, with, seats}
+use Rattle.places.specs.Places.{Place, At, Nowhere, find, number}
+use Rattle.places.proofs.Digits.{has-high, has-with, has-those, is-those, those-lt}
+use Rattle.domain.specs.Tables.{Users}
+use Rattle.domain.specs.Channels.{stands, places}
 
-module _ (f : ℕ → Bool) where
-  pub record Marking (m i : ℕ) : Type 0 where
-    pub small : m < 2 ^ seats
-    pub marks : (k : ℕ) → k < seats → has m k ≡ (ltb k i && f k)
+any-end : (f : ℕ → Bool) (xs : List ℕ) (x : ℕ) → any f (xs ++ x ∷ []) ≡ (any f xs || f x)
+unfolding any
+any-end f [] x = or-false (f x)
+any-end f (y ∷ xs) x = go (f y) (any-end f xs x)
+  where
+    go : (b : Bool) → any f (xs ++ x ∷ []) ≡ (any f xs || f x) → (b || any f (xs ++ x ∷ [])) ≡ ((b || any f xs) || f x)
+    go true e = refl
+    go false e = e
 
-  pub marking-start : Marking 0 0
-  marking-start = record { small = omega arith; marks = λ k h. has-high 0 0 k (omega arith) zero-le ∙ sym (ap (λ (b : Bool). b && f k) (le-ltb k 0 zero-le)) }
+-- a place as the code's number; 64 marks nothing
+stands-number : (w : Place) (j : ℕ) → j < 64 → eqb (number 64 w) j ≡ stands j w
+unfolding number
+stands-number (At i) j h = refl
+stands-number Nowhere j h = ne-eqb 64 j (λ e. omega arith)
 
-  module _ (m i : ℕ) (s : Marking m i) where
-    next-ltb : (k : ℕ) → (i ≡ k → ⊥) → ltb k (i + 1) ≡ ltb k i
-    next-ltb k n = go (ltb k i) refl
-      where
-        go : (b : Bool) → ltb k i ≡ b → ltb k (i + 1) ≡ b
-        go true e = lt-ltb k (i + 1) (omega (arith, ltb-true k i e))
-        go false e = le-ltb k (i + 1) (let l : i ≤ k = ltb-false k i e in omega (arith, n))
+pub places-none : (us : Users) → 0 ≡ places us []
+unfolding places any
+places-none us = is-those seats 0 (λ i. false) (omega arith) (λ k h. has-high 0 0 k (omega arith) zero-le)
 
-    elsewhere : (k : ℕ) → (i ≡ k → ⊥) → k < seats → has m k ≡ (ltb k (i + 1) && f k)
-    elsewhere k n l = s .marks k l ∙ ap (λ (b : Bool). b && f k) (sym (next-ltb k n))
+module _ (us : Users) (xs : List ℕ) (x m r : ℕ) (is : m ≡ places us xs) (at : r ≡ number 64 (find (us .ids) x)) where
+  pub places-more : with seats m r ≡ places us (xs ++ x ∷ [])
+  unfolding places with
+  places-more = is-those seats (with seats m r) (λ i. any (λ u. stands i (find (us .ids) u)) (xs ++ x ∷ [])) (those-lt seats _) (λ k h.
+      has-with seats r k h m
+      ∙ ap (λ (b : Bool). b || eqb r k) (ap (λ (n : ℕ). has n k) is ∙ has-those seats (λ i. any (λ u. stands i (find (us .ids) u)) xs) k h)
+      ∙ ap (λ (b : Bool). any (λ u. stands k (find (us .ids) u)) xs || b) (ap (λ (n : ℕ). eqb n k) at ∙ stands-number (find (us .ids) x) k h)
+      ∙ sym (any-end (λ u. stands k (find (us .ids) u)) xs x))
 
-    here : (k : ℕ) → i ≡ k → (b : Bool) → f i ≡ b → (ltb k (i + 1) && f k) ≡ b
-    here k q b e = ap (λ (b : Bool). b && f k) (lt-ltb k (i + 1) (omega arith)) ∙ ap f (sym q) ∙ e
-
-    pub marking-turn : Marking (if f i then with seats m i else m) (i + 1)
-    unfolding with
-    marking-turn = go (f i) refl
-      where
-        go : (b : Bool) → f i ≡ b → Marking (if b then with seats m i else m) (i + 1)
-        go true e = record { small = those-lt seats _; marks = λ k l. has-with seats i k l m ∙ at k l (eqb i k) refl }
-          where
-            at : (k : ℕ) → k < seats → (b : Bool) → eqb i k ≡ b → (has m k || b) ≡ (ltb k (i + 1) && f k)
-            at k l true q = or-true (has m k) ∙ sym (here k (eqb-true i k q) true e)
-            at k l false q = or-false (has m k) ∙ elsewhere k (eqb-false i k q) l
-        go false e = record { small = s .small; marks = λ k l. at k l (eqb i k) refl }
-          where
-            at : (k : ℕ) → k < seats → (b : Bool) → eqb i k ≡ b → has m k ≡ (ltb k (i + 1) && f k)
-            at k l true q = s .marks k l ∙ ap (λ (b : Bool). b && f k) (le-ltb k i (omega (arith, eqb-true i k q))) ∙ sym (here k (eqb-true i k q) false e)
-            at k l false q = elsewhere k (eqb-false i k q) l
-
-  pub marking-end : (m i : ℕ) → Marking m i → seats ≤ i → m ≡ those seats f
-  marking-end m i s h = is-those seats m f (s .small) (λ k l. s .marks k l ∙ ap (λ (b : Bool). b && f k) (lt-ltb k i (omega arith)))
-
--- the user at place i is listed
-abbrev pub listed : (names ids : List ℕ) (i : ℕ) → Bool
-listed names ids i = member (getD names i 0) ids
-
-pub places-marked : (names ids : List ℕ) (m i : ℕ) → Marking (listed names ids) m i → 64 ≤ i → (homes : List ℕ) → m ≡ places (users-of names homes) ids
-unfolding places name
-places-marked names ids m i s h homes = marking-end (listed names ids) m i s h
+-- a turn of a loop over a list
+pub places-turn : (us : Users) → length (us .ids) ≡ 64 → (ids : List ℕ) (i m r : ℕ) → i < length ids → m ≡ places us (take i ids)
+    → r ≡ number (length (us .ids)) (find (us .ids) (getD ids i 0)) → with seats m r ≡ places us (take (i + 1) ids)
+places-turn us sized ids i m r h is at =
+    places-more us (take i ids) (getD ids i 0) m r is (at ∙ ap (λ (n : ℕ). number n (find (us .ids) (getD ids i 0))) sized) ∙ ap (places us) (sym (rw (add-one i) (take-suc ids i 0 h)))

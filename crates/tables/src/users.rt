@@ -3,7 +3,7 @@ ghost use mathlib.Core.Path.{_≡_};
 ghost use mathlib.Core.List.{List};
 ghost use Prim.Native.Nat.{ℕ, _≤_};
 ghost use Rattle.places.specs.Places.{number};
-ghost use Rattle.places.specs.Sets.{if_then_else_, with, links, seats};
+ghost use Rattle.places.specs.Sets.{if_then_else_, with, links};
 ghost use Rattle.domain.specs.Channels.{places as placesOf};
 ghost use Rattle.domain.specs.Tables.{users-of, attached as attachedIn, add-user, hosts as hostsOf};
 
@@ -58,27 +58,15 @@ fn host(m: u16, counts: bool, home: u8) -> u16
     m
 }
 
-// A mask with place i, where its user counts.
-fn mark(m: u64, i: u8, counts: bool) -> u64
-    ensures { λ r. ⌜ r ≡ (if counts then with seats m i else m) ⌝ }
-{
-    if counts {
-        return places::masks::with_seat(m, i);
-    }
-    m
-}
-
-// The places of the users among ids.
+// The places of the users among ids. An id that is found nowhere is at 64, which marks nothing.
 pub fn places_of(names: &[u16; 64], ids: &[u16]) -> u64
     ensures { λ r. ⌜ ((homes : List ℕ) → r ≡ placesOf (users-of (now (names .entry)) homes) (now (ids .entry))) ⌝ }
 {
-    let at = &names[..];
-    let free = places::columns::member(ids, 0);
     let mut m: u64 = 0;
-    let mut i: u8 = 0;
-    while i < 64 {
-        let j = i as usize;
-        m = mark(m, i, places::columns::among(ids, free, at[j]));
+    let mut i = 0;
+    while i < ids.len() {
+        let at = places::columns::find(names, ids[i]);
+        m = places::masks::with_seat(m, at as u8);
         i += 1;
     }
     m

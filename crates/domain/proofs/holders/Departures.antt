@@ -1,19 +1,19 @@
 -- DUrq, DPum, RJum and loss: those who leave, for history, are those whose places are swept. Assumes nothing.
 use mathlib.Core.Path.{_≡_, refl, sym, ap, _∙_}
-use mathlib.Core.Bool.{Bool, true, false, not, _&&_, _||_, true≢false, and-false, and-true, or-false}
+use mathlib.Core.Bool.{Bool, true, false, not, _&&_, true≢false, and-false, and-true, or-false}
 use mathlib.Core.List.{List, [], _∷_}
 use mathlib.Core.Option.{Option, none, some}
 use Prim.Native.Nat.{ℕ, _<_}
 use native.Mathlib.Omega.{arith}
 use lib.Dec.{eqb}
-use borrow.Author.Tests.{ne-eqb, eqb-true}
+use borrow.Author.Tests.{ne-eqb}
 use Rattle.places.specs.Places.{Place, At, Nowhere, find, inOrder}
-use Rattle.places.specs.Sets.{if_then_else_, has, minus, meet, with, seats, links, without, all, any, null, member, firsts, once}
+use Rattle.places.specs.Sets.{if_then_else_, has, minus, meet, with, seats, links, without, all, any, null, member, once}
 use Rattle.messages.specs.Named.{DUrq, DUin, CDin, TVcf, no-such-user}
 use Rattle.records.specs.Records.{Sent, to, tell}
 use Rattle.places.proofs.Digits.{has-those, eqb-sym}
 use Rattle.places.proofs.Rows.{find-holds}
-use Rattle.places.proofs.Members.{member-at}
+use Rattle.places.proofs.Members.{member-at, member-once}
 use Rattle.places.proofs.Order.{in-order-has}
 use Rattle.domain.specs.Tables.{Users, Domain, name, link, state, sweep-tokens, remove-users, hosts}
 use Rattle.domain.specs.declared.channel.Kind.{Kind}
@@ -146,22 +146,6 @@ module _ (h : History) (d : Domain) (g : Sound d) (a : Agrees h (d .users) (d .t
       hold k u Nowhere q = refl
 
 -- ---- who leaves
-
-member-firsts : (u : ℕ) (before xs : List ℕ) → member u (firsts before xs) ≡ (member u xs && not (member u before))
-unfolding member any firsts
-member-firsts u before [] = refl
-member-firsts u before (x ∷ xs) = go (member x before) refl (eqb u x) refl (member-firsts u (x ∷ before) xs)
-  where
-    go : (b : Bool) → member x before ≡ b → (c : Bool) → eqb u x ≡ c → member u (firsts (x ∷ before) xs) ≡ (member u xs && not (eqb u x || member u before))
-        → member u (if b then firsts (x ∷ before) xs else x ∷ firsts (x ∷ before) xs) ≡ ((c || member u xs) && not (member u before))
-    go true p true q h = h ∙ rw (q, ap (λ (v : ℕ). member v before) (eqb-true u x q) ∙ p) (and-false (member u xs))
-    go true p false q h = h ∙ rw q
-    go false p true q h = rw (q, ap (λ (v : ℕ). member v before) (eqb-true u x q) ∙ p)
-    go false p false q h = rw (q, h) (rw q)
-
-member-once : (u : ℕ) (xs : List ℕ) → member u (once xs) ≡ member u xs
-unfolding once member any
-member-once u xs = member-firsts u [] xs ∙ and-true (member u xs)
 
 module _ (h : History) (d : Domain) (g : Sound d) (a : Agrees h (d .users) (d .tokens)) where
   leave-fine : (ev : Event) (live reason : ℕ) (ids : List ℕ)

@@ -8,36 +8,27 @@ use native.Mathlib.Omega.{arith}
 use lib.Dec.{eqb, ltb}
 use lib.ListN.{length, getD}
 use borrow.Author.Tests.{eqb-true, eqb-false, ltb-false}
-use Rattle.places.specs.Sets.{if_then_else_, any, null, keep, member, once, has, with, without, minus, union, only, links, seats}
-use Rattle.places.specs.Places.{Place, At, Nowhere, first, find, found}
-use Rattle.places.proofs.Bools.{or-elim, some-is, and-parts}
+use Rattle.places.specs.Sets.{if_then_else_, any, null, member, has, with, without, minus, union, only, links, seats}
+use Rattle.places.specs.Places.{Place, At, Nowhere, find}
+use Rattle.places.proofs.Bools.{or-elim, some-is}
+use Rattle.places.proofs.Below.{any-elim}
 use Rattle.places.proofs.Digits.{those-lt}
 use Rattle.places.proofs.Marks.{Marks, with-mono, has-pos, in-those, in-without, with-old, with-new, union-left, only-self, marks-map, marks-none, marks-only, marks-with, marks-union, marks-meet, marks-minus, marks-without}
 use Rattle.places.proofs.Rows.{Apart, find-holds, find-none}
-use Rattle.places.proofs.Members.{member-keep}
 use Rattle.messages.specs.Named.{CJcf, CCcf, CAin, CEin, successful, no-such-channel, too-many-channels, not-admitted, other-user-id}
 use Rattle.records.specs.Records.{to}
 use Rattle.domain.specs.declared.channel.Kind.{Kind}
 use Rattle.domain.specs.declared.channel.Kind.the-variants.{Static, User, Private, Assigned}
 use Rattle.domain.specs.declared.channel.Channel.{Channel}
 use Rattle.domain.specs.Cells.{no-channel, kind, channel-of, with-marks, with-guests}
-use Rattle.domain.specs.Tables.{Users, Channels, Domain, name, channel, put-channels, add-channel, set-channel, sweep-channels, marked}
+use Rattle.domain.specs.Tables.{Users, Channels, Domain, channel, put-channels, add-channel, set-channel, sweep-channels, marked}
 use Rattle.domain.specs.Effects.{Effect, ignored, done, within}
-use Rattle.domain.specs.Channels.{may, join-at, join-new, join, joined, left, leave-channels, convene, owned, manages, disband, places, own, attached-of, admitted-of, admit, private, expel}
+use Rattle.domain.specs.Channels.{may, join-at, join-new, join, joined, left, leave-channels, convene, owned, manages, disband, stands, places, own, attached-of, admitted-of, admit, private, expel}
 use Rattle.domain.specs.Events.{channels-full}
 use Rattle.domain.proofs.invariant.Sound.{Seated, Host, Owned, Sort, ChannelRow, Sound, Fine}
 use Rattle.domain.proofs.invariant.Seats.{kind-of, with-marks-of, seated-low}
 use Rattle.domain.proofs.invariant.From.{Sits, from-fine}
 use Rattle.domain.proofs.invariant.Rooms.{Open, in-hosts, guests-changed, with-channels, set-sound, end-sound, made-sound, sweep-owned, sweep-table, marked-user, marked-row}
-
--- what is found is an id
-pub found-pos : (ids : List ℕ) (x : ℕ) → found (find ids x) ≡ true → 0 < x
-unfolding find found
-found-pos ids x h = go (eqb x 0) refl h
-  where
-    go : (b : Bool) → eqb x 0 ≡ b → found (if b then Nowhere else first 0 x ids) ≡ true → 0 < x
-    go true e k = absurd (false≢true k)
-    go false e k = let z : x ≡ 0 → ⊥ = eqb-false x 0 e in omega arith
 
 -- ---- joining
 
@@ -181,16 +172,14 @@ module _ (d : Domain) (s : Sound d) (p : ℕ) where
 
 -- ---- private channels, by their managers
 
--- the places of listed users that are attached are seated
-pub places-seated : (us : Users) (ids : List ℕ) → Marks 64 (places us (keep (λ v. found (find (us .ids) v)) ids)) (Seated us)
-unfolding places name
-places-seated us ids = record { fits = those-lt 64 _; are = λ i h. there i (in-those 64 _ i h .1) }
+-- the places of listed users are seated
+pub places-seated : (us : Users) (ids : List ℕ) → Marks 64 (places us ids) (Seated us)
+unfolding places
+places-seated us ids = record { fits = those-lt 64 _; are = λ i h. any-elim (λ u. stands i (find (us .ids) u)) ids (in-those 64 _ i h .1) (λ u. there i u (find (us .ids) u) refl) }
   where
-    known : ℕ → Bool
-    known v = found (find (us .ids) v)
-
-    there : (i : ℕ) → member (getD (us .ids) i 0) (keep known ids) ≡ true → Seated us i
-    there i h = found-pos (us .ids) _ (and-parts (known (getD (us .ids) i 0)) (member (getD (us .ids) i 0) ids) (sym (member-keep known (getD (us .ids) i 0) ids) ∙ h) .0)
+    there : (i u : ℕ) (w : Place) → find (us .ids) u ≡ w → stands i w ≡ true → Seated us i
+    there i u (At j) e q = let r = find-holds (us .ids) u j e in rw (← eqb-true j i q, r .0) (r .2)
+    there i u Nowhere e q = absurd (false≢true q)
 
 -- place j has a private channel with manager m and admitted adm
 record Private-at (d : Domain) (j m adm : ℕ) : Type 0 where
@@ -256,7 +245,7 @@ module _ (d : Domain) (s : Sound d) (p u c : ℕ) where
         x .sort .1,
         record {
           manager = x .sort .2 .manager;
-          admitted = marks-union 64 adm _ (x .sort .2 .admitted) (places-seated (d .users) (once ids));
+          admitted = marks-union 64 adm _ (x .sort .2 .admitted) (places-seated (d .users) _);
           marks = marks-map 16 (x .sort .2 .marks) (λ q o. record { place = o .place; in-mask = with-mono 64 adm _ m (o .place) (λ l a. union-left 64 adm (o .place) _ l a) (o .in-mask); there = o .there });
         },
       )

@@ -8,10 +8,10 @@ use native.Mathlib.Omega.{arith}
 use lib.Dec.{eqb}
 use lib.ListN.{length, getD}
 use borrow.Author.Tests.{eq-eqb}
-use Rattle.places.specs.Sets.{if_then_else_, null, once, has, with, without, minus, meet, links, seats, keep, member}
+use Rattle.places.specs.Sets.{if_then_else_, null, once, has, with, without, minus, meet, links, seats, member}
 use Rattle.places.specs.Places.{Place, At, Nowhere, find, found, inOrder, turns-to}
 use Rattle.places.proofs.Bools.{some-is, none≢some}
-use Rattle.places.proofs.Digits.{those-lt, has-those}
+use Rattle.places.proofs.Digits.{those-lt}
 use Rattle.places.proofs.Marks.{has-low, in-with, in-meet, in-minus, without-other, marks-map, marks-meet, marks-minus}
 use Rattle.places.proofs.Rows.{Apart, find-there, in-list, getD-any, find-holds}
 use Rattle.places.proofs.Table.{Table, table-sweep, sweep-used}
@@ -22,11 +22,12 @@ use Rattle.domain.specs.declared.channel.Kind.the-variants.{Static, User
 use Rattle.domain.specs.declared.channel.Channel.{Channel}
 use Rattle.domain.specs.declared.token.Token.{Token}
 use Rattle.domain.specs.Cells.{kind, channel-of, with-marks, hold, token-of}
-use Rattle.domain.specs.Tables.{Users, Channels, Domain, name, link, attached, stays-on, remove-users, sweep-channels, marked, is-free, sweep-tokens}
+use Rattle.domain.specs.Tables.{Users, Channels, Domain, link, attached, stays-on, remove-users, sweep-channels, marked, is-free, sweep-tokens}
 use Rattle.domain.specs.Tokens.{lose}
 use Rattle.domain.specs.Effects.{ignored}
 use Rattle.domain.specs.Channels.{places, private}
 use Rattle.domain.specs.Leaving.{fate-of, fate, leave, those-on, detach, close}
+use Rattle.domain.proofs.Listed.{places-has}
 use Rattle.domain.proofs.invariant.Sound.{Seated, Host, UserRow, Sort, ChannelRow, TokenRow, Sound, Fine}
 use Rattle.domain.proofs.invariant.Held.{lose-held, token-row}
 use Rattle.domain.proofs.invariant.Rooms.{in-hosts, row-of, guests-changed, sweep-owned, sweep-table, marked-user, marked-row}
@@ -103,10 +104,9 @@ module _ (us us′ : Users) (sized : length (us .at) ≡ 64) (apart : Apart (us 
 -- who leaves: the user u at place i, where it is on p and listed
 module _ (d : Domain) (s : Sound d) (p u i : ℕ) (here : find (d .users .ids) u ≡ At i) (ids : List ℕ) where
   pub gone-is : has (places (d .users) (those-on (d .users) p ids)) i ≡ (eqb (link (d .users) i) p && member u ids)
-  unfolding places those-on name attached found
+  unfolding those-on attached found
   gone-is =
-      has-those 64 (λ j. member (getD (d .users .ids) j 0) (keep (λ v. found (attached (d .users) p v)) ids)) i (omega (arith, find-holds (d .users .ids) u i here .1, s .users-are .ids-size))
-      ∙ ap (λ (v : ℕ). member v (keep (λ v. found (attached (d .users) p v)) ids)) (find-holds (d .users .ids) u i here .0)
+      places-has (d .users) u i here (omega (arith, find-holds (d .users .ids) u i here .1, s .users-are .ids-size)) (those-on (d .users) p ids)
       ∙ member-keep (λ v. found (attached (d .users) p v)) u ids
       ∙ rw (here, attached) (on (eqb (link (d .users) i) p))
     where

@@ -1,38 +1,41 @@
-use Prim.Native.Nat.{_-_, _≤_}
-use mathlib.Core.Path.{_≡_, _∙_}
-use lib.ListN.{length, getD}
-use Rattle.places.proofs.Turns.{among-is}
+-- The places of those passed are in the mask.
+use Prim.Native.Nat.{ℕ, _-_, _≤_}
+use mathlib.Core.Path.{_≡_, ap, _∙_}
+use mathlib.Core.List.{List}
+use native.Mathlib.Omega.{arith}
+use lib.ListN.{length, take}
+use lib.Seq.{take-all}
 use borrow.Author.Needs.{needs}
-use Rattle.tables.proofs.Marking.{Marking, marking-start, marking-turn, listed, places-marked}
+use Rattle.places.proofs.Answers.{find-le}
+use Rattle.domain.specs.Tables.{users-of}
+use Rattle.domain.specs.Channels.{places}
+use Rattle.tables.proofs.Marking.{places-none, places-turn}
 use Rattle.tables.proofs.users.places_of.Statement.{statement}
 use Rattle.tables.proofs.users.places_of.Tie as tie
 
 abbrev Inv-loop : tie.InvT-loop
-Inv-loop names ids at free m₀ i₀ m i = (i ≤ 64) × (length names ≡ 64) × Marking (listed names ids) m i
+Inv-loop names ids m₀ i₀ m i = (i ≤ length ids) × ((homes : List ℕ) → m ≡ places (users-of names homes) (take i ids))
 
 abbrev μ-loop : tie.MeasureT-loop
-μ-loop names ids at free m₀ i₀ m i = 64 - i
-
-member-requires : tie.Need-member-requires Inv-loop μ-loop
-member-requires c κs = search needs
+μ-loop names ids m₀ i₀ m i = length ids - i
 
 loop-holds : tie.Need-loop-holds Inv-loop μ-loop
-loop-holds c = let a = c .before .before .before .args in (search needs, search needs, marking-start (listed (a .names .now) (a .ids .now)))
+loop-holds c = (search needs, λ homes. places-none _)
 
-cast-j : tie.Need-cast-j Inv-loop μ-loop
-cast-j c = search needs
+mul-find : tie.Need-mul-find Inv-loop μ-loop
+mul-find c = search needs
 
-mul-among : tie.Need-mul-among Inv-loop μ-loop
-mul-among c = search needs
+shared-slice-read-find : tie.Need-shared-slice-read-find Inv-loop μ-loop
+shared-slice-read-find c = search needs
 
-shared-slice-read-among : tie.Need-shared-slice-read-among Inv-loop μ-loop
-shared-slice-read-among c = search needs
+find-requires : tie.Need-find-requires Inv-loop μ-loop
+find-requires c κs = search needs
 
-among-requires : tie.Need-among-requires Inv-loop μ-loop
-among-requires c κs = search needs
+cast-with-seat : tie.Need-cast-with-seat Inv-loop μ-loop
+cast-with-seat c = omega (arith, find-le (c .before .before .before .before .before .before .args .names .now) _ _ (c .find .ensures))
 
-mark-requires : tie.Need-mark-requires Inv-loop μ-loop
-mark-requires c κs = search needs
+with-seat-requires : tie.Need-with-seat-requires Inv-loop μ-loop
+with-seat-requires c κs = search needs
 
 add-i : tie.Need-add-i Inv-loop μ-loop
 add-i c = search needs
@@ -41,14 +44,12 @@ loop-less : tie.Need-loop-less Inv-loop μ-loop
 loop-less c = search needs
 
 loop-again : tie.Need-loop-again Inv-loop μ-loop
-loop-again c = let b = c .before .before .before .before .loop in
-    let a = c .before .before .before .before .before .before .before .before .args in
-    let free = c .before .before .before .before .before .member in
-    let seen = c .before .among .ensures ∙ among-is (getD (a .names .now) (b .i) 0) (a .ids .now) (free .result) (free .ensures) in
-    (search needs, b .inv .1, rw (c .mark .ensures, seen) (marking-turn (listed (a .names .now) (a .ids .now)) (b .m) (b .i) (b .inv .2)))
+loop-again c = let a = c .before .before .before .before .before .before .before .args in
+    let b = c .before .before .before .before .before .loop in
+    (search needs, λ homes. c .with-seat .ensures ∙ places-turn (users-of (a .names .now) homes) (search needs) (a .ids .now) (b .i) (b .m) _ (search needs) (b .inv .1 homes) (c .before .find .ensures))
 
 returns : tie.Need-returns Inv-loop μ-loop
-returns c = let b = c .before .loop in places-marked _ _ _ _ (b .inv .2) (search needs)
+returns c homes = c .before .loop .inv .1 homes ∙ ap (places _) (take-all _ _ (c .loop-test .left))
 
 pub places-of-spec : {M : Type 1} → statement M
 places-of-spec =
@@ -56,13 +57,12 @@ places-of-spec =
     (tie.spec
     Inv-loop
     μ-loop
-    member-requires
     loop-holds
-    cast-j
-    mul-among
-    shared-slice-read-among
-    among-requires
-    mark-requires
+    mul-find
+    shared-slice-read-find
+    find-requires
+    cast-with-seat
+    with-seat-requires
     add-i
     loop-less
     loop-again
