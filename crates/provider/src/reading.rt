@@ -46,7 +46,7 @@ fn understand_all(octets: &[u8], listed: &mut [u16; 64]) -> Understood
     if !messages::is_served(line) {
         return refused(Reply::NotServed);
     }
-    let d = reader::decode(octets);
+    let d = reader::decode_by_table(octets);
     if d.ok {
         let ids = d.ids;
         *listed = ids;
