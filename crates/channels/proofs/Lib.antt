@@ -3,5 +3,5 @@ pub mod Sending
 pub mod Initiators
 -- AUrq and CJrq by cases
 pub mod Entering
--- CLrq: one place, and every place
+-- CLrq
 pub mod Parting

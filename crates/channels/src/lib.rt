@@ -8,12 +8,12 @@ ghost use lib.Dec.{eqb};
 ghost use lib.ListN.{take, length};
 ghost use Rattle.messages.specs.Named.{CJcf, successful};
 ghost use Rattle.places.specs.Sets.{any, only, links as allLinks};
+ghost use Rattle.places.specs.Swept.{Turns, anywhere};
 ghost use Rattle.records.specs.Records.{to};
-ghost use Rattle.domain.specs.Cells.{kind, channel-of};
+ghost use Rattle.domain.specs.Cells.{no-channel, kind, channel-of};
 ghost use Rattle.domain.specs.Tables.{Users, Channels, users-of, channels-of, channel-cells, channel, add-channel, sweep-channels, lapses, at-limit, grant};
 ghost use Rattle.domain.specs.Effects.{done, settle, answered};
 ghost use Rattle.domain.specs.Channels.{attach as attachOf, join as joinOf, join-at, join-new, may, joined as joinedIn, left, leave-channels as leaveOf};
-ghost use Rattle.channels.specs.Turns.{left-at};
 use domain::answer::Answer;
 use domain::channel::Channel;
 use domain::channel::Kind;
@@ -284,8 +284,9 @@ fn leave_at(
     j: usize,
 )
     requires { ⌜ j < 128 ⌝ }
-    ensures { λ _. ⌜ channels-of (now (ids .exit)) (now (roles .exit)) (now (chairs .exit)) (now (guests .exit)) (now (marks .exit))
-        ≡ left-at p (now (listed .entry)) (channels-of (now (ids .entry)) (now (roles .entry)) (now (chairs .entry)) (now (guests .entry)) (now (marks .entry))) j ⌝ }
+    ensures { λ _. ⌜ Turns no-channel (anywhere (left p (now (listed .entry)))) j
+        (now (ids .entry)) (channel-cells (now (roles .entry)) (now (chairs .entry)) (now (guests .entry)) (now (marks .entry)))
+        (now (ids .exit)) (channel-cells (now (roles .exit)) (now (chairs .exit)) (now (guests .exit)) (now (marks .exit))) ⌝ }
 {
     let c = ids[j];
     if c == 0 {
@@ -340,10 +341,10 @@ fn leave_all(
         ≡ sweep-channels (left p (now (listed .entry))) (channels-of (now (ids .entry)) (now (roles .entry)) (now (chairs .entry)) (now (guests .entry)) (now (marks .entry))) ⌝ }
 {
     let n = width(ids, roles, chairs, guests, marks);
-    let mut j = 0;
+    let mut j = places::columns::used_from(ids, 0);
     while j < n {
         leave_at(ids, roles, chairs, guests, marks, p, listed, j);
-        j += 1;
+        j = places::columns::used_from(ids, j + 1);
     }
 }
 

@@ -4,14 +4,12 @@ use mathlib.Core.Bool.{Bool, true, false}
 use mathlib.Core.List.{List}
 use Prim.Native.Nat.{ℕ, zero, suc, _+_, _-_, _*_, _≤_, _<_}
 use native.Mathlib.Nat.{add-mul, add-zero, add-suc}
-use native.Mathlib.Numerals.{add-one}
 use native.Mathlib.Omega.{arith}
 use lib.Dec.{eqb, ltb}
 use lib.ListN.{length, getD, drop, drop-of-length-le}
 use lib.Seq.{drop-cons}
 use borrow.Author.Tests.{eq-eqb, ne-eqb, eqb-true, eqb-false, ltb-true, ltb-false}
-use Rattle.places.specs.Sets.{if_then_else_}
-use Rattle.places.specs.Places.{Place, At, Nowhere, busy, InRow, number}
+use Rattle.places.specs.Places.{At, Nowhere, busy, InRow, number}
 
 -- ---- in a row: two places, and two rows one behind the other
 

@@ -3,7 +3,7 @@ use mathlib.Core.Path.{_≡_, refl, sym, ap, _∙_}
 use mathlib.Core.List.{List, map}
 use mathlib.Core.Option.{Option, none, some}
 use Prim.Native.Nat.{ℕ, zero, suc, _+_, _-_, _≤_, _<_}
-use native.Mathlib.Nat.{add-zero, add-suc}
+use native.Mathlib.Nat.{add-zero}
 use native.Mathlib.Numerals.{add-one}
 use native.Mathlib.Omega.{arith}
 use lib.ListN.{length, getD, set, drop, length-set}
@@ -11,7 +11,7 @@ use lib.Seq.{set-getD}
 use borrow.Author.Tests.{eq-eqb, ne-eqb}
 use Rattle.places.specs.Places.{busy, number, becomes, turns-to, sweep}
 use Rattle.places.proofs.Places.{Sweeping, sweep-start, sweep-turn, sweep-end}
-use Rattle.places.proofs.Busy.{Busy, busy-is}
+use Rattle.places.proofs.Busy.{busy-is}
 use Rattle.places.specs.Swept.{Turns}
 
 module _ {A : Type 0} (blank : A) (fate : ℕ → ℕ → A → Option A) where

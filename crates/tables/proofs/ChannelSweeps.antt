@@ -1,12 +1,12 @@
 -- A sweep of the channels: one place as the code stores it, and the table once every place is swept.
-use mathlib.Core.Path.{_≡_, refl, sym, ap, _∙_}
+use mathlib.Core.Path.{_≡_, refl, ap}
 use mathlib.Core.List.{List, [], _∷_}
 use mathlib.Core.Option.{Option, none, some}
 use Prim.Native.Nat.{ℕ, _≤_}
 use native.Mathlib.Omega.{arith}
 use lib.ListN.{length, getD, set}
 use Rattle.places.specs.Swept.{Turns, anywhere}
-use Rattle.places.proofs.Sweeps.{turn-ends, turn-stays, Sweeps, sweeps-start, sweeps-end}
+use Rattle.places.proofs.Sweeps.{turn-ends, turn-stays, Sweeps, sweeps-end}
 use Rattle.domain.specs.declared.channel.Channel.{Channel}
 use Rattle.domain.specs.Cells.{no-channel}
 use Rattle.domain.specs.Tables.{channels-of, channel-cells, end-channel, sweep-channels}

@@ -1,46 +1,62 @@
+use Prim.Native.Nat.{_-_}
+use mathlib.Core.Path.{_≡_}
+use native.Mathlib.Omega.{arith}
 use borrow.Author.Needs.{needs}
-use mathlib.Core.Path.{_≡_, _∙_}
-use Prim.Native.Nat.{_-_, _≤_}
-use lib.ListN.{length}
-use Rattle.places.proofs.Places.{sweep-start}
-use Rattle.domain.specs.Tables.{channels-of, channel-cells}
-use Rattle.channels.proofs.Parting.{Leaving, leaving-turn, leaving-ids, leaving-cells, leaving-end}
+use Rattle.places.specs.Swept.{anywhere}
+use Rattle.places.proofs.Sweeps.{Sweeps, sweeps-start, sweeps-next, sweeps-step}
+use Rattle.domain.specs.Cells.{no-channel}
+use Rattle.domain.specs.Tables.{channel-cells}
+use Rattle.domain.specs.Channels.{left}
+use Rattle.tables.proofs.ChannelSweeps.{channels-swept}
 use Rattle.channels.proofs.leave_all.Statement.{statement}
 use Rattle.channels.proofs.leave_all.Tie as tie
 
 abbrev Inv-loop : tie.InvT-loop
-Inv-loop ids₀ roles₀ chairs₀ guests₀ marks₀ p listed n j₀ ids roles chairs guests marks j = (j ≤ n) × (n ≡ 128) × (length ids ≡ 128) × (length (channel-cells roles chairs guests marks) ≡ 128)
-    × Leaving p listed (channels-of ids₀ roles₀ chairs₀ guests₀ marks₀) j (channels-of ids roles chairs guests marks)
+Inv-loop ids₀ roles₀ chairs₀ guests₀ marks₀ p listed n j₀ ids roles chairs guests marks j =
+    (n ≡ 128) × Sweeps no-channel (anywhere (left p listed)) 128 ids₀ (channel-cells roles₀ chairs₀ guests₀ marks₀) j ids (channel-cells roles chairs guests marks)
 
 abbrev μ-loop : tie.MeasureT-loop
 μ-loop ids₀ roles₀ chairs₀ guests₀ marks₀ p listed n j₀ ids roles chairs guests marks j = n - j
 
 width-requires : tie.Need-width-requires Inv-loop μ-loop
-width-requires c κs = tt
+width-requires c κs = search needs
+
+used-from-requires : tie.Need-used-from-requires Inv-loop μ-loop
+used-from-requires c κs = search needs
 
 loop-holds : tie.Need-loop-holds Inv-loop μ-loop
-loop-holds c = (search needs, search needs, search needs, search needs, sweep-start _ _ _ _)
+loop-holds c =
+    let a = c .before .before .before .before .before .before .before .before .before .before .args in
+    let f = left (a .p) (a .listed .now) in
+    let n = c .before .before .before .width .ensures in
+    (n .0, sweeps-next no-channel (anywhere f) (sweeps-start no-channel (anywhere f) 128 (a .ids .now) (channel-cells (a .roles .now) (a .chairs .now) (a .guests .now) (a .marks .now)) (n .1) (n .2)) _ (c .used-from .ensures) .1)
 
 leave-at-requires : tie.Need-leave-at-requires Inv-loop μ-loop
 leave-at-requires c κs = search needs
 
-add-j : tie.Need-add-j Inv-loop μ-loop
-add-j c = search needs
+add-used-from : tie.Need-add-used-from Inv-loop μ-loop
+add-used-from c = search needs
+
+used-from-requires-2 : tie.Need-used-from-requires-2 Inv-loop μ-loop
+used-from-requires-2 c κs = search needs
 
 loop-less : tie.Need-loop-less Inv-loop μ-loop
-loop-less c = search needs
+loop-less c =
+    let a = c .before .before .before .before .before .before .before .before .before .before .before .before .before .before .before .before .before .before .before .before .before .args in
+    let f = left (a .p) (a .listed .now) in
+    omega (arith, sweeps-step no-channel (anywhere f) (c .before .before .before .before .before .before .before .before .before .before .loop .inv .1) (search needs) (c .before .before .before .leave-at .ensures) _ (c .used-from2 .ensures) .0)
 
 loop-again : tie.Need-loop-again Inv-loop μ-loop
-loop-again c = (
-  search needs,
-  search needs,
-  leaving-ids _ _ _ _ _ (c .leave-at .ensures) ∙ c .before .before .before .before .before .before .before .loop .inv .2,
-  leaving-cells _ _ _ _ _ (c .leave-at .ensures) ∙ c .before .before .before .before .before .before .before .loop .inv .3,
-  leaving-turn _ _ _ _ _ (c .leave-at .ensures) _ (c .before .before .before .before .before .before .before .loop .inv .4) (search needs) (search needs),
-)
+loop-again c =
+    let a = c .before .before .before .before .before .before .before .before .before .before .before .before .before .before .before .before .before .before .before .before .before .args in
+    let f = left (a .p) (a .listed .now) in
+    (c .before .before .before .before .before .before .before .before .before .before .loop .inv .0, sweeps-step no-channel (anywhere f) (c .before .before .before .before .before .before .before .before .before .before .loop .inv .1) (search needs) (c .before .before .before .leave-at .ensures) _ (c .used-from2 .ensures) .1)
 
 returns : tie.Need-returns Inv-loop μ-loop
-returns c = leaving-end _ _ _ _ _ (c .before .loop .inv .4) (search needs) (search needs)
+returns c =
+    let a = c .before .before .before .before .before .before .before .before .before .before .before .before .args in
+    let f = left (a .p) (a .listed .now) in
+    channels-swept f _ _ _ _ _ _ _ _ _ _ _ (c .before .loop .inv .1) (search needs)
 
 pub leave-all-spec : {M : Type 1} → statement M
 leave-all-spec =
@@ -49,9 +65,11 @@ leave-all-spec =
     Inv-loop
     μ-loop
     width-requires
+    used-from-requires
     loop-holds
     leave-at-requires
-    add-j
+    add-used-from
+    used-from-requires-2
     loop-less
     loop-again
     returns)
