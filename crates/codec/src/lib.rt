@@ -1,6 +1,6 @@
 // The writer and the reader together: what is written is read back.
+use brief::decode;
 use reader::Decoded;
-use reader::decode;
 use reader::refused;
 use writer::Wrote;
 use writer::encode;

@@ -1,5 +1,5 @@
 // The one question that the line card's C program asks.
-use reader::decode;
+use brief::decode;
 ghost use mathlib.Core.Path.{_≡_};
 ghost use Rattle.reader.specs.Reading.{decodeOf};
 ghost use Rattle.linecard.specs.Answers.{answerOf};

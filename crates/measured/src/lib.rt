@@ -7,7 +7,7 @@ pub extern "C" fn read_many(s: &[u8], rounds: u32) -> u32 {
     let mut left = rounds;
     while 0 < left {
         left -= 1;
-        let d = reader::decode(s);
+        let d = brief::decode(s);
         sum = std::num::wrapping_add_u32(sum, std::num::wrapping_add_u32(d.number, d.values[1]));
     }
     sum
@@ -38,7 +38,7 @@ fn write_one(number: u32, token: u32, out: &mut [u8]) -> u32 {
 // What a message is read as: the number and values, the refusal behind them, and the list; how many ids it has.
 #[no_mangle]
 pub extern "C" fn read_message(octets: &[u8], values: &mut [u32; 6], list: &mut [u16; 64]) -> u32 {
-    let d = reader::decode(octets);
+    let d = brief::decode(octets);
     let read = d.values;
     let listed = d.ids;
     *values = [

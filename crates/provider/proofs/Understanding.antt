@@ -22,8 +22,8 @@ use Rattle.messages.proofs.NamedLaws.{ranges, read-named, heard-formed, refused
 use Rattle.messages.proofs.Refusals.{refusal, refusals, number-read}
 use Rattle.reader.specs.Held.{padded, isString, noMessage, decoded}
 use Rattle.reader.specs.declared.Decoded.{Decoded}
-use Rattle.reader.specs.declared.short.Short.{Short}
-use Rattle.reader.specs.Shortly.{in-full, Shortly}
+use Rattle.brief.specs.declared.Short.{Short}
+use Rattle.brief.specs.Shortly.{in-full, Shortly}
 use Rattle.reader.proofs.HeldLaws.{unlike}
 use Rattle.domain.specs.Numbers.{replyNumber}
 use Rattle.domain.specs.Tables.{Domain}

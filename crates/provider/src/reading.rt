@@ -19,7 +19,7 @@ pub struct Understood {
 pub fn understand(octets: &[u8], listed: &mut [u16; 64]) -> Understood
     ensures { λ r. ⌜ Understands (now (octets .entry)) r (now (listed .exit)) ⌝ }
 {
-    let q = reader::short::read_short(octets);
+    let q = brief::read_short(octets);
     if q.ok {
         return done(q.number, q.first, q.second, q.third, 0);
     }
@@ -46,7 +46,7 @@ fn understand_all(octets: &[u8], listed: &mut [u16; 64]) -> Understood
     if !messages::is_served(line) {
         return refused(Reply::NotServed);
     }
-    let d = reader::decode_by_table(octets);
+    let d = reader::decode(octets);
     if d.ok {
         let ids = d.ids;
         *listed = ids;

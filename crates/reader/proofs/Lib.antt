@@ -2,7 +2,6 @@ pub mod HeldLaws
 pub mod ItemLaws
 pub mod Loop
 pub mod RowLaws
-pub mod ShortLaws
 pub mod ListLaws
 pub mod BodyLaws
 mod StopLaws

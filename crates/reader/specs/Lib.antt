@@ -1,5 +1,4 @@
 pub mod Held
 pub mod Reading
-pub mod Shortly
 pub mod Stepping
 pub mod Stops

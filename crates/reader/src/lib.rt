@@ -1,5 +1,4 @@
 // The reader: the message of some octets, or a refusal. And a reader that remembers the message and the bit that it has reached.
-pub mod short;
 pub mod stops;
 
 use messages::LIST_LIMIT;
@@ -16,8 +15,6 @@ use octets::read_id;
 use octets::read_length;
 use octets::read_number;
 use octets::wide;
-use short::Short;
-use short::read_short;
 ghost use mathlib.Core.Path.{_≡_};
 ghost use Prim.Native.Nat.{_+_, _*_, _-_, _<_, _≤_};
 ghost use mathlib.Core.Bool.{true, false};
@@ -31,7 +28,6 @@ ghost use Rattle.octets.specs.Bits.{takeBits, after};
 ghost use Rattle.octets.specs.Places.{leftAt, bitsAt, behind, Bitwise, cappedOf, inBits, EndsAt};
 ghost use Rattle.reader.specs.Reading.{TakesField, TakesFields, ReadsItems, listed, bodyAt, rowAt, GoesOn, decodeOf};
 ghost use Rattle.reader.specs.Held.{noMessage, decoded};
-ghost use Rattle.reader.specs.Shortly.{in-full};
 ghost use Rattle.reader.specs.Stepping.{FieldAt, Steps};
 
 // The value of the bits left of an octet begun, at a bit.
@@ -407,38 +403,8 @@ fn decode_row(s: &[u8], at: usize, number: u32) -> Decoded
     }
 }
 
-// What was read the short way, with 0 in the other cells.
-fn in_full(q: Short) -> Decoded
-    ensures { λ r. ⌜ r ≡ in-full q ⌝ }
-{
-    let values = [q.first as u32, q.second as u32, q.third as u32, 0];
-    let ids = [0u16; LIST_LIMIT];
-    Decoded {
-        ok: true,
-        refusal: 0,
-        number: q.number,
-        have: q.have,
-        values: values,
-        count: 0,
-        octets: false,
-        start: 0,
-        ids: ids,
-    }
-}
-
 // The message of these octets.
 pub fn decode(s: &[u8]) -> Decoded
-    ensures { λ r. ⌜ r ≡ decoded (now (s .entry)) (decodeOf (now (s .entry))) ⌝ }
-{
-    let q = read_short(s);
-    if q.ok {
-        return in_full(q);
-    }
-    decode_by_table(s)
-}
-
-// The same, the long way alone, for whoever has tried the short one.
-pub fn decode_by_table(s: &[u8]) -> Decoded
     ensures { λ r. ⌜ r ≡ decoded (now (s .entry)) (decodeOf (now (s .entry))) ⌝ }
 {
     if s.len() == 0 {

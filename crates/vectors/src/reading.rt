@@ -89,7 +89,7 @@ fn put_parts(text: &mut [u8], d: Decoded, values: &[u32], ids: &[u16], message: 
 
 // The line of octets to be read.
 pub fn answer(message: &[u8], text: &mut [u8]) -> usize {
-    let d = reader::decode(message);
+    let d = brief::decode(message);
     if d.ok {
         let values = d.values;
         let ids = d.ids;

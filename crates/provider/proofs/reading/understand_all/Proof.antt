@@ -58,8 +58,8 @@ returns-5 : tie.Need-returns-5
 unfolding number-in
 returns-5 c = refuses-asks (c .before .before .before .before .before .before .before .before .before .before .before .args .octets .now) 7 _ _ (unserved-understood (c .before .before .before .before .before .before .before .before .before .before .before .args .octets .now) (search needs) (search needs) (c .before .before .before .before .before .before .if3 .left) (sym (c .before .before .before .before .goes-up .ensures ∙ up-at _ _ (c .before .before .before .before .before .entry-of .ensures)) ∙ not-false _ (c .before .before .before .if4 .left)) (sym (c .before .before .is-served .ensures ∙ served-at _ _ (c .before .before .before .before .before .entry-of .ensures)) ∙ not-true _ (c .before .if5 .taken))) (ap replyNumber (c .refused5 .ensures)) refl
 
-decode-by-table-requires : tie.Need-decode-by-table-requires
-decode-by-table-requires c κs = search needs
+decode-requires : tie.Need-decode-requires
+decode-requires c κs = search needs
 
 asked-requires : tie.Need-asked-requires
 asked-requires c κs = search needs
@@ -72,7 +72,7 @@ returns-6 c =
     let s = sym (d .before .before .is-served .ensures ∙ served-at _ _ (d .before .before .before .before .before .entry-of .ensures)) ∙ not-false _ (d .before .if5 .left) in
     let up = sym (d .before .before .before .before .goes-up .ensures ∙ up-at _ _ (d .before .before .before .before .before .entry-of .ensures)) ∙ not-false _ (d .before .before .before .if4 .left) in
     let i = read-understood os (search needs) (search needs) (d .before .before .before .before .before .before .if3 .left) up s in
-    asked-asks os _ _ (c .asked .ensures) _ refl (d .decode-by-table .ensures) i (bytes-at os (λ i. omega (arith, d .before .before .before .before .before .before .before .shared-slice-known2 .given i))) (c .before .before .if6 .taken) s
+    asked-asks os _ _ (c .asked .ensures) _ refl (d .decode .ensures) i (bytes-at os (λ i. omega (arith, d .before .before .before .before .before .before .before .shared-slice-known2 .given i))) (c .before .before .if6 .taken) s
 
 reply-of-requires : tie.Need-reply-of-requires
 reply-of-requires c κs = search needs
@@ -88,7 +88,7 @@ returns-7 c =
     let s = sym (d .before .before .is-served .ensures ∙ served-at _ _ (d .before .before .before .before .before .entry-of .ensures)) ∙ not-false _ (d .before .if5 .left) in
     let up = sym (d .before .before .before .before .goes-up .ensures ∙ up-at _ _ (d .before .before .before .before .before .entry-of .ensures)) ∙ not-false _ (d .before .before .before .if4 .left) in
     let i = read-understood os (search needs) (search needs) (d .before .before .before .before .before .before .if3 .left) up s in
-    codec-asks os _ (d .decode-by-table .ensures) _ _ i (c .before .before .if6 .left) (ap replyNumber (c .refused6 .ensures) ∙ c .before .reply-of .ensures)
+    codec-asks os _ (d .decode .ensures) _ _ i (c .before .before .if6 .left) (ap replyNumber (c .refused6 .ensures) ∙ c .before .reply-of .ensures)
 
 pub understand-all-spec : {M : Type 1} → statement M
 understand-all-spec =
@@ -109,7 +109,7 @@ understand-all-spec =
     is-served-requires
     refused-requires-5
     returns-5
-    decode-by-table-requires
+    decode-requires
     asked-requires
     returns-6
     reply-of-requires

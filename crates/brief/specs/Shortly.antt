@@ -7,10 +7,10 @@ use lib.ListN.{drop}
 use Rattle.octets.specs.Octets.{got, anId, readItem, nothing}
 use Rattle.messages.specs.Limits.{list-limit}
 use Rattle.messages.specs.Messages.{Field, item, user, plain, row, is-served}
 use Rattle.reader.specs.declared.Decoded.{Decoded}
-use Rattle.reader.specs.declared.short.Short.{Short}
+use Rattle.brief.specs.declared.Short.{Short}
 use Rattle.reader.specs.Held.{padded, isString, decoded}
 use Rattle.reader.specs.Reading.{decodeOf}
 
 -- a short message as `decode` answers it: no items, and every cell that it does not use is 0
 unfoldable pub in-full : Short → Decoded

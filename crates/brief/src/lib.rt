@@ -1,10 +1,14 @@
 // The short way: the messages of a few ids, which a conference sends most. Whoever gets no answer here reads the long way.
+use messages::LIST_LIMIT;
 use octets::wide;
+use reader::Decoded;
 ghost use mathlib.Core.Path.{_≡_};
 ghost use Prim.Native.Nat.{_+_, _<_, _≤_};
 ghost use mathlib.Core.Bool.{true, false};
 ghost use lib.ListN.{length};
-ghost use Rattle.reader.specs.Shortly.{Shortly, IdAt, Made, SecondId};
+ghost use Rattle.reader.specs.Reading.{decodeOf};
+ghost use Rattle.reader.specs.Held.{decoded};
+ghost use Rattle.brief.specs.Shortly.{in-full, Shortly, IdAt, Made, SecondId};
 
 // Whether a message is read; then its number, how many values it has, and the values, 0 where it has none.
 pub struct Short {
@@ -153,4 +157,34 @@ pub fn read_short(s: &[u8]) -> Short
         return no_ids(s);
     }
     not_short()
+}
+
+// What was read the short way, with 0 in the other cells.
+fn in_full(q: Short) -> Decoded
+    ensures { λ r. ⌜ r ≡ in-full q ⌝ }
+{
+    let values = [q.first as u32, q.second as u32, q.third as u32, 0];
+    let ids = [0u16; LIST_LIMIT];
+    Decoded {
+        ok: true,
+        refusal: 0,
+        number: q.number,
+        have: q.have,
+        values: values,
+        count: 0,
+        octets: false,
+        start: 0,
+        ids: ids,
+    }
+}
+
+// The message of these octets: the short way first, else by the table of messages.
+pub fn decode(s: &[u8]) -> Decoded
+    ensures { λ r. ⌜ r ≡ decoded (now (s .entry)) (decodeOf (now (s .entry))) ⌝ }
+{
+    let q = read_short(s);
+    if q.ok {
+        return in_full(q);
+    }
+    reader::decode(s)
 }

@@ -1,8 +1,8 @@
 use mathlib.Core.Path.{refl}
-use Rattle.reader.specs.Shortly.{in-full}
+use Rattle.brief.specs.Shortly.{in-full}
 use borrow.Author.Needs.{needs}
-use Rattle.reader.proofs.in_full.Statement.{statement}
-use Rattle.reader.proofs.in_full.Tie as tie
+use Rattle.brief.proofs.in_full.Statement.{statement}
+use Rattle.brief.proofs.in_full.Tie as tie
 
 cast-t4 : tie.Need-cast-t4
 cast-t4 c = search needs

@@ -1,8 +1,8 @@
 use mathlib.Core.Path.{sym, _∙_}
 use Rattle.reader.proofs.HeldLaws.{unlike}
 use borrow.Author.Needs.{needs}
-use Rattle.reader.proofs.short.of_values.Statement.{statement}
-use Rattle.reader.proofs.short.of_values.Tie as tie
+use Rattle.brief.proofs.of_values.Statement.{statement}
+use Rattle.brief.proofs.of_values.Tie as tie
 
 not-short-requires : tie.Need-not-short-requires
 not-short-requires c κs = search needs

@@ -14,9 +14,9 @@ use Rattle.octets.proofs.Reading.{octet-at}
 use Rattle.messages.specs.Limits.{message-limit}
 use Rattle.messages.specs.Messages.{Field, item, user, result, kind, Row, plain, row, is-served}
 use Rattle.messages.specs.Codec.{takeField, takeFields, takeRow, Msg, readMsg, ok, ending, decode}
-use Rattle.reader.specs.declared.short.Short.{Short}
+use Rattle.brief.specs.declared.Short.{Short}
 use Rattle.reader.specs.Held.{padded, isString, decoded}
-use Rattle.reader.specs.Shortly.{in-full, Shortly, IdAt, Starts, SecondId}
+use Rattle.brief.specs.Shortly.{in-full, Shortly, IdAt, Starts, SecondId}
 
 -- the first octet k of a message of a user and another id
 module _ (k low : ℕ) (e : _≡_ {A = Row × Bool × Bool × ℕ} (row (k / 4), isString (k / 4), is-served (k / 4), k % 4) (plain (user ∷ item (anId low) ∷ []) nothing, false, true, 0)) (most : low ≤ 65536) where

@@ -1,11 +1,11 @@
 use mathlib.Core.Path.{refl, sym, _∙_}
 use Rattle.messages.specs.Messages.{row, entry, is-served}
 use Rattle.messages.specs.Columns.{tailAt, packedAt, packed}
 use Rattle.reader.proofs.HeldLaws.{unlike}
-use Rattle.reader.proofs.ShortLaws.{none-left, id-before, result-before, shortly}
+use Rattle.brief.proofs.ShortLaws.{none-left, id-before, result-before, shortly}
 use borrow.Author.Needs.{needs}
-use Rattle.reader.proofs.short.result_and_ids.Statement.{statement}
-use Rattle.reader.proofs.short.result_and_ids.Tie as tie
+use Rattle.brief.proofs.result_and_ids.Statement.{statement}
+use Rattle.brief.proofs.result_and_ids.Tie as tie
 
 shared-slice-read-wide : tie.Need-shared-slice-read-wide
 shared-slice-read-wide c = search needs

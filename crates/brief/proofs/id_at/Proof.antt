@@ -2,8 +2,8 @@ use mathlib.Core.Path.{refl, sym}
 use native.Mathlib.Omega.{arith}
 use Rattle.octets.proofs.Reading.{id-is}
 use borrow.Author.Needs.{needs}
-use Rattle.reader.proofs.short.id_at.Statement.{statement}
-use Rattle.reader.proofs.short.id_at.Tie as tie
+use Rattle.brief.proofs.id_at.Statement.{statement}
+use Rattle.brief.proofs.id_at.Tie as tie
 
 shared-slice-read-wide : tie.Need-shared-slice-read-wide
 shared-slice-read-wide c = search needs

@@ -1,8 +1,8 @@
 use mathlib.Core.Path.{sym, _∙_}
 use Rattle.reader.proofs.HeldLaws.{unlike}
 use borrow.Author.Needs.{needs}
-use Rattle.reader.proofs.short.read_short.Statement.{statement}
-use Rattle.reader.proofs.short.read_short.Tie as tie
+use Rattle.brief.proofs.read_short.Statement.{statement}
+use Rattle.brief.proofs.read_short.Tie as tie
 
 two-ids-requires : tie.Need-two-ids-requires
 two-ids-requires c κs = search needs

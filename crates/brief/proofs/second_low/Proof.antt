@@ -3,9 +3,9 @@ use mathlib.Core.Logic.{⊎-elim}
 use native.Mathlib.Omega.{arith}
 use Rattle.messages.specs.Messages.{row, entry, is-served}
 use Rattle.messages.specs.Columns.{tailAt, packedAt, packed}
-use Rattle.reader.proofs.ShortLaws.{second-is}
-use Rattle.reader.proofs.short.second_low.Statement.{statement}
-use Rattle.reader.proofs.short.second_low.Tie as tie
+use Rattle.brief.proofs.ShortLaws.{second-is}
+use Rattle.brief.proofs.second_low.Statement.{statement}
+use Rattle.brief.proofs.second_low.Tie as tie
 
 returns : tie.Need-returns
 unfolding row entry is-served tailAt packedAt packed

@@ -2,10 +2,10 @@ use mathlib.Core.Path.{refl, sym, _∙_}
 use native.Mathlib.Omega.{arith}
 use Prim.Native.Nat.{_≤_}
 use lib.ListN.{getD}
-use Rattle.reader.proofs.ShortLaws.{none-left, id-before, shortly}
+use Rattle.brief.proofs.ShortLaws.{none-left, id-before, shortly}
 use borrow.Author.Needs.{needs}
-use Rattle.reader.proofs.short.two_ids.Statement.{statement}
-use Rattle.reader.proofs.short.two_ids.Tie as tie
+use Rattle.brief.proofs.two_ids.Statement.{statement}
+use Rattle.brief.proofs.two_ids.Tie as tie
 
 shared-slice-read-o : tie.Need-shared-slice-read-o
 shared-slice-read-o c = search needs

@@ -1,0 +1,24 @@
+use mathlib.Core.Path.{_∙_}
+use borrow.Author.Needs.{needs}
+use Rattle.brief.proofs.decode.Statement.{statement}
+use Rattle.brief.proofs.decode.Tie as tie
+
+read-short-requires : tie.Need-read-short-requires
+read-short-requires c κs = search needs
+
+in-full-requires : tie.Need-in-full-requires
+in-full-requires c κs = search needs
+
+returns : tie.Need-returns
+returns c = c .in-full .ensures ∙ c .before .before .read-short .ensures (c .before .if1 .taken) .same
+
+decode-requires : tie.Need-decode-requires
+decode-requires c κs = search needs
+
+returns-2 : tie.Need-returns-2
+returns-2 c = search needs
+
+pub decode-spec : {M : Type 1} → statement M
+decode-spec =
+    tie.close
+    (tie.spec read-short-requires in-full-requires returns decode-requires returns-2)
