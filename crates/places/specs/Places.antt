@@ -1,5 +1,6 @@
 -- A table of places: a list of ids, and beside it a list of cells. A place whose id is 0 is free. Any cell type.
-use Prim.Native.Nat.{ℕ, zero, suc, _+_}
+use Prim.Native.Nat.{ℕ, zero, suc, _+_, _*_, _<_}
+use mathlib.Core.Path.{_≡_}
 use mathlib.Core.Bool.{Bool, true, false, not, _&&_, _||_}
 use mathlib.Core.List.{List, [], _∷_, _++_, map}
 use mathlib.Core.Option.{Option, none, some}
@@ -16,6 +17,15 @@ pub data Place : Type 0 where
 unfoldable pub first : (i x : ℕ) (xs : List ℕ) → Place
 first i x [] = Nowhere
 first i x (y ∷ ys) = let r = first (suc i) x ys in if eqb x y then At i else r
+
+-- the first place, counted from i, that is in use
+unfoldable pub busy : (i : ℕ) (xs : List ℕ) → Place
+busy i [] = Nowhere
+busy i (x ∷ xs) = let r = busy (suc i) xs in if eqb x 0 then r else At i
+
+-- the n places from i on hold x, x + step and so on
+abbrev pub InRow : (ids : List ℕ) (i n x step : ℕ) → Type 0
+InRow ids i n x step = (k : ℕ) → k < n → getD ids (i + k) 0 ≡ x + k * step
 
 -- a place as a number; n is nowhere
 unfoldable pub number : ℕ → Place → ℕ

@@ -2,11 +2,11 @@
 ghost use mathlib.Core.Path.{_≡_};
 ghost use mathlib.Core.Bool.{true, false};
 ghost use mathlib.Core.List.{[], _∷_};
-ghost use Prim.Native.Nat.{_+_, _-_, _<_, _≤_};
+ghost use Prim.Native.Nat.{_+_, _-_, _*_, _<_, _≤_};
 ghost use lib.Dec.{eqb};
 ghost use lib.ListN.{length, drop};
 ghost use Rattle.places.specs.Sets.{if_then_else_, member as memberOf};
-ghost use Rattle.places.specs.Places.{first as firstIn, find as findIn, found, spare as spareIn, used as usedIn, next as nextIn, number, unused as unusedIn};
+ghost use Rattle.places.specs.Places.{first as firstIn, busy, InRow, find as findIn, found, spare as spareIn, used as usedIn, next as nextIn, number, unused as unusedIn};
 
 // One of the two, four, eight places from i on holds x. They are looked at together: no branch stands between them.
 fn of_two(ids: &[u16], i: usize, x: u16) -> bool
@@ -73,6 +73,64 @@ pub fn spare(ids: &[u16]) -> usize
     ensures { λ r. ⌜ r ≡ number (length (now (ids .entry))) (spareIn (now (ids .entry))) ⌝ }
 {
     first(ids, 0)
+}
+
+// The two, four, eight places from i on hold x, x + step and so on. No branch stands between them here either.
+fn row_of_two(ids: &[u16], i: usize, x: u16, step: u16) -> bool
+    requires { ⌜ (i + 2 ≤ length (now ids)) × (x + step ≤ 65535) ⌝ }
+    ensures { λ r. ⌜ (r ≡ true → InRow (now (ids .entry)) i 2 x step) ⌝ }
+{
+    (ids[i] == x) & (ids[i + 1] == x + step)
+}
+
+fn row_of_four(ids: &[u16], i: usize, x: u16, step: u16) -> bool
+    requires { ⌜ (i + 4 ≤ length (now ids)) × (x + 3 * step ≤ 65535) ⌝ }
+    ensures { λ r. ⌜ (r ≡ true → InRow (now (ids .entry)) i 4 x step) ⌝ }
+{
+    row_of_two(ids, i, x, step) & row_of_two(ids, i + 2, x + 2 * step, step)
+}
+
+fn row_of_eight(ids: &[u16], i: usize, x: u16, step: u16) -> bool
+    requires { ⌜ (i + 8 ≤ length (now ids)) × (x + 7 * step ≤ 65535) ⌝ }
+    ensures { λ r. ⌜ (r ≡ true → InRow (now (ids .entry)) i 8 x step) ⌝ }
+{
+    row_of_four(ids, i, x, step) & row_of_four(ids, i + 4, x + 4 * step, step)
+}
+
+// A place before which, from another on, none is in use: free places are passed eight at a time.
+fn past_free(ids: &[u16], from: usize) -> usize
+    requires { ⌜ from ≤ length (now ids) ⌝ }
+    ensures { λ r. ⌜ (r ≤ length (now (ids .entry))) × (busy from (drop from (now (ids .entry))) ≡ busy r (drop r (now (ids .entry)))) ⌝ }
+{
+    let mut i = from;
+    while 8 <= ids.len() - i {
+        if !row_of_eight(ids, i, 0, 0) {
+            return i;
+        }
+        i += 8;
+    }
+    i
+}
+
+// The first place in use, from a place on.
+pub fn used_from(ids: &[u16], from: usize) -> usize
+    ensures { λ r. ⌜ r ≡ number (length (now (ids .entry))) (busy from (drop from (now (ids .entry)))) ⌝ }
+{
+    let n = ids.len();
+    if n <= from {
+        return n;
+    }
+    if 0 < ids[from] {
+        return from;
+    }
+    let mut i = past_free(ids, from);
+    while i < n {
+        if 0 < ids[i] {
+            return i;
+        }
+        i += 1;
+    }
+    i
 }
 
 // A place counts if its id is not 0.
