@@ -16,4 +16,4 @@ pub mod Order
 -- the code's answers and loops
 pub mod Answers
 pub mod Turns
-pub mod Some
+pub mod Kept
