@@ -1,21 +1,24 @@
 -- Ids in order, where only some of them bring anything: these stand in a column of their own and are taken from there.
 use mathlib.Core.Path.{_≡_, refl, sym, ap, _∙_}
 use mathlib.Core.Bool.{Bool, true, false, true≢false, false≢true}
-use mathlib.Core.List.{List, [], _∷_, _++_}
-use Prim.Native.Nat.{ℕ, zero, suc, _+_, _≤_, _<_}
+use mathlib.Core.List.{List, [], _∷_, _++_, append-nil, append-assoc}
+use Prim.Native.Nat.{ℕ, zero, suc, _+_, _-_, _≤_, _<_, zero-le}
+use native.Mathlib.Numerals.{add-one}
 use native.Mathlib.Omega.{arith}
 use native.Mathlib.Nat.{le-refl, add-zero, zero-add, add-suc, suc-add}
 use lib.Dec.{ltb}
-use lib.ListN.{length, getD}
+use lib.ListN.{length, getD, take, drop, drop-of-length-le}
+use lib.Seq.{drop-cons}
 use borrow.Author.Tests.{lt-ltb}
 use Rattle.places.specs.Sets.{if_then_else_, keep, any, each, member}
 use Rattle.places.specs.Places.{Place, At, Nowhere, find, next, rising, inOrder, picked}
 use Rattle.places.proofs.Bools.{and-parts}
+use Rattle.places.proofs.Busy.{Busy}
 use Rattle.places.proofs.Rows.{in-list, find-holds}
 use Rattle.places.proofs.Answers.{stands-found, found-somewhere}
 use Rattle.places.proofs.Members.{member-at, member-where, member-keep}
 use Rattle.places.proofs.Order.{keep-le, above, above-less, next-of, next-above, next-there}
-use Rattle.places.proofs.Turns.{rising-turn, rising-end}
+use Rattle.places.proofs.Turns.{keep-append, rising-turn, rising-end}
 
 -- ---- the next id is the least above `low`
 module _ (low : ℕ) (xs : List ℕ) where
@@ -148,3 +151,82 @@ module _ {B : Type 0} (f : ℕ → List B) (test : ℕ → Bool) (ids : List ℕ
   unfolding each inOrder rising member any
   each-none none =
       each-same f ids [] (λ x h m. absurd (false≢true m)) (λ x h m n. let r = place-of x h m in silent x (r .0) (r .1) (none (r .0)))
+
+-- ---- a loop that lists them: at place j the first n of `list` are those before
+pub record Listing (test : ℕ → Bool) (ids list : List ℕ) (n j : ℕ) : Type 0 where
+  pub few : n ≤ j
+  pub within : j ≤ length ids
+  pub room : n ≤ length list
+  pub left : keep (ltb 0) (picked test 0 ids) ≡ take n list ++ keep (ltb 0) (drop j (picked test 0 ids))
+
+module _ (test : ℕ → Bool) (ids : List ℕ) (j : ℕ) where
+  one-place : j < length ids → keep (ltb 0) (drop j (picked test 0 ids)) ≡ keep (ltb 0) ((if test j then getD ids j 0 else 0) ∷ []) ++ keep (ltb 0) (drop (suc j) (picked test 0 ids))
+  one-place h =
+      rw (drop-cons (picked test 0 ids) j 0 (omega (arith, picked-length test 0 ids)), picked-at test ids j)
+      (keep-append (ltb 0) ((if test j then getD ids j 0 else 0) ∷ []) (drop (suc j) (picked test 0 ids)))
+
+  in-use : 0 < getD ids j 0 → keep (ltb 0) ((if test j then getD ids j 0 else 0) ∷ []) ≡ (if test j then getD ids j 0 ∷ [] else [])
+  unfolding keep
+  in-use u = go (test j)
+    where
+      go : (b : Bool) → keep (ltb 0) ((if b then getD ids j 0 else 0) ∷ []) ≡ (if b then getD ids j 0 ∷ [] else [])
+      go true = rw (lt-ltb 0 (getD ids j 0) u)
+      go false = refl
+
+  free : getD ids j 0 ≡ 0 → keep (ltb 0) ((if test j then getD ids j 0 else 0) ∷ []) ≡ []
+  unfolding keep
+  free e = rw e (go (test j))
+    where
+      go : (b : Bool) → keep (ltb 0) ((if b then 0 else 0) ∷ []) ≡ []
+      go true = refl
+      go false = refl
+
+module _ {test : ℕ → Bool} {ids list : List ℕ} where
+  pub list-start : Listing test ids list 0 0
+  list-start = record { few = zero-le; within = zero-le; room = zero-le; left = refl }
+
+  pub list-end : {n j : ℕ} → Listing test ids list n j → length ids ≤ j → take n list ≡ keep (ltb 0) (picked test 0 ids)
+  unfolding keep
+  list-end {n} {j} s h =
+      let k : length (picked test 0 ids) ≤ j = omega (arith, picked-length test 0 ids) in
+      sym (s .left ∙ ap (λ (l : List ℕ). take n list ++ keep (ltb 0) l) (drop-of-length-le (picked test 0 ids) k) ∙ append-nil (take n list))
+
+  -- a free place is passed over, and so are many
+  past-one : {n j : ℕ} → Listing test ids list n j → j < length ids → getD ids j 0 ≡ 0 → Listing test ids list n (suc j)
+  past-one {n} {j} s h e =
+      record {
+        few = omega (arith, s .few);
+        within = h;
+        room = s .room;
+        left = s .left ∙ ap (λ (l : List ℕ). take n list ++ l) (one-place test ids j h ∙ ap (λ (l : List ℕ). l ++ keep (ltb 0) (drop (suc j) (picked test 0 ids))) (free test ids j e));
+      }
+
+  past : (k : ℕ) {n j : ℕ} → Listing test ids list n j → j + k ≤ length ids → ((i : ℕ) → j ≤ i → i < j + k → getD ids i 0 ≡ 0) → Listing test ids list n (j + k)
+  past zero {n} {j} s h f = rw (add-zero j) s
+  past (suc k) {n} {j} s h f =
+      rw (add-suc j k, ← suc-add j k)
+      (past k (past-one s (omega arith) (f j (le-refl j) (omega arith))) (omega arith) (λ i a b. f i (omega arith) (omega arith)))
+
+  module _ {n j : ℕ} (s : Listing test ids list n j) where
+    -- a place in use: its id comes where it passes
+    pub list-turn : {ys : List ℕ} {r : ℕ} → j < length ids → 0 < getD ids j 0 → take r ys ≡ take n list ++ (if test j then getD ids j 0 ∷ [] else [])
+        → r ≤ n + 1 → r ≤ length ys → Listing test ids ys r (j + 1)
+    list-turn {ys} {r} h u e f k =
+        rw (add-one j)
+        (record {
+          few = omega (arith, s .few);
+          within = h;
+          room = k;
+          left = s .left ∙ ap (λ (l : List ℕ). take n list ++ l) (one-place test ids j h ∙ ap (λ (l : List ℕ). l ++ rest) (in-use test ids j u))
+              ∙ sym (append-assoc (take n list) (if test j then getD ids j 0 ∷ [] else []) rest) ∙ ap (λ (l : List ℕ). l ++ rest) (sym e);
+        })
+      where
+        rest : List ℕ
+        rest = keep (ltb 0) (drop (suc j) (picked test 0 ids))
+
+    -- on to the next place in use
+    pub list-on : {k : ℕ} → Busy ids j k → Listing test ids list n k
+    list-on {k} b =
+        let h : j ≤ k = b .behind (s .within) in
+        let e : j + (k - j) ≡ k = omega arith in
+        rw e at (past (k - j) s (omega (arith, b .within)) (λ i p q. b .free i p (omega arith)))
