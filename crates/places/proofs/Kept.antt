@@ -7,8 +7,8 @@ use native.Mathlib.Numerals.{add-one}
 use native.Mathlib.Omega.{arith}
 use native.Mathlib.Nat.{le-refl, add-zero, zero-add, add-suc, suc-add}
 use lib.Dec.{ltb}
-use lib.ListN.{length, getD, take, drop, drop-of-length-le}
-use lib.Seq.{drop-cons}
+use lib.ListN.{length, getD, set, take, drop, drop-of-length-le}
+use lib.Seq.{drop-cons, take-suc-set}
 use borrow.Author.Tests.{lt-ltb}
 use Rattle.places.specs.Sets.{if_then_else_, keep, any, each, member}
 use Rattle.places.specs.Places.{Place, At, Nowhere, find, next, rising, inOrder, picked}
@@ -151,6 +151,14 @@ module _ {B : Type 0} (f : ℕ → List B) (test : ℕ → Bool) (ids : List ℕ
   unfolding each inOrder rising member any
   each-none none =
       each-same f ids [] (λ x h m. absurd (false≢true m)) (λ x h m n. let r = place-of x h m in silent x (r .0) (r .1) (none (r .0)))
+
+-- ---- a list with one id more, or as it was
+module _ (xs : List ℕ) (n x : ℕ) where
+  pub more-yes : {b : Bool} → n < length xs → b ≡ true → take (n + 1) (set xs n x) ≡ take n xs ++ (if b then x ∷ [] else [])
+  more-yes h e = rw (add-one n, e) (take-suc-set xs n x h)
+
+  pub more-no : {b : Bool} → b ≡ false → take n xs ≡ take n xs ++ (if b then x ∷ [] else [])
+  more-no e = rw e (sym (append-nil (take n xs)))
 
 -- ---- a loop that lists them: at place j the first n of `list` are those before
 pub record Listing (test : ℕ → Bool) (ids list : List ℕ) (n j : ℕ) : Type 0 where
