@@ -101,9 +101,9 @@ ended-length us gone live c (Private g adm) = go (has gone g)
     go true = omega (arith, told-length (meet links (hosts us (with seats adm g)) live) (CDin c), CDin-length c)
     go false = omega (arith, ap length records-none)
 
-pub ends-length : (us : Users) (cs : Channels) (gone live : ℕ) → length (cs .ids) ≤ 128 → length (records (each (end-at us cs gone live) (inOrder (cs .ids)))) ≤ 14336
-ends-length us cs gone live h =
-    omega (arith, each-length (end-at us cs gone live) 112 (λ c. ended-length us gone live c (kind-at cs c)) (inOrder (cs .ids)), in-order-length (cs .ids))
+pub ends-length : (us : Users) (cs : Channels) (gone live : ℕ) (ids : List ℕ) → length ids ≤ 128 → length (records (each (end-at us cs gone live) (inOrder ids))) ≤ 14336
+ends-length us cs gone live ids h =
+    omega (arith, each-length (end-at us cs gone live) 112 (λ c. ended-length us gone live c (kind-at cs c)) (inOrder ids), in-order-length ids)
 
 -- ---- TVcf
 TVcf-length : (u k s : ℕ) → length (wire (TVcf no-such-user u k s)) ≡ 7
@@ -176,6 +176,6 @@ module _ (d : Domain) (gone live reason : ℕ) (ids : List ℕ) where
         ap length (records-append (parting live reason ids) ends),
         length-append (records (parting live reason ids)) (records ends),
         parting-length reason ids r h live,
-        ends-length (d .users) (d .channels) gone live c,
+        ends-length (d .users) (d .channels) gone live (d .channels .ids) c,
         returns-length (d .users) (d .tokens) gone t,
       )

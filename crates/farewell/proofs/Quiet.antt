@@ -1,4 +1,4 @@
--- Where no channel ends, and where no token is being given, nothing is told.
+-- Nothing is told of a channel that does not end, or of a token that is not being given.
 use mathlib.Core.Path.{_≡_, refl, sym, ap, _∙_}
 use mathlib.Core.Bool.{Bool, true, false}
 use mathlib.Core.List.{List, [], _∷_, _++_}
@@ -6,10 +6,11 @@ use Prim.Native.Nat.{ℕ, zero, suc, _/_, _%_, _≤_, _<_}
 use native.Mathlib.Omega.{arith}
 use lib.Dec.{eqb, ltb}
 use lib.ListN.{length, getD, List·getD-eq-default}
-use borrow.Author.Tests.{eqb-true, ltb-true, ltb-false}
-use Rattle.places.specs.Sets.{if_then_else_, each, has}
-use Rattle.places.specs.Places.{Place, At, Nowhere, find, load}
-use Rattle.records.specs.Records.{Sent}
+use borrow.Author.Tests.{ne-eqb, ltb-true, ltb-false}
+use Rattle.places.specs.Sets.{if_then_else_, keep, each, has}
+use Rattle.places.specs.Places.{At, find, load, inOrder, picked}
+use Rattle.places.proofs.Kept.{picked-length, each-picked, each-listed, each-none}
+use Rattle.records.specs.Records.{Sent, records}
 use Rattle.domain.specs.declared.channel.Kind.{Kind}
 use Rattle.domain.specs.declared.channel.Channel.{Channel}
 use Rattle.domain.specs.declared.channel.Kind.the-variants.{Static, User, Private, Assigned}
@@ -20,36 +21,26 @@ use Rattle.domain.specs.Cells.{no-channel, no-token, kind, hold}
 use Rattle.domain.specs.Tables.{Users, Channels, Tokens, channel-cells, channels-of, token-cells, tokens-of, state}
 use Rattle.domain.specs.Leaving.{ended, returned}
 use Rattle.farewell.specs.Parts.{kind-at, ends-by, end-at, return-at}
+use Rattle.farewell.proofs.Rounds.{coming, coming-all}
 
-pub nothing : (f : ℕ → List Sent) → ((x : ℕ) → f x ≡ []) → (l : List ℕ) → each f l ≡ []
-unfolding each
-nothing f h [] = refl
-nothing f h (x ∷ l) = rw (h x) (nothing f h l)
-
--- what holds of the places looked at, and of those behind the end, holds of all
-pub everywhere : (P : ℕ → Type 0) (n : ℕ) → ((k : ℕ) → k < n → P k) → ((k : ℕ) → n ≤ k → P k) → (k : ℕ) → P k
-everywhere P n f g k = go (ltb k n) refl
+-- no cell is 3, also behind the end
+pub none-is : (xs : List ℕ) → ((j : ℕ) → j < length xs → getD xs j 0 ≡ 3 → ⊥) → (j : ℕ) → eqb (getD xs j 0) 3 ≡ false
+none-is xs h j = go (ltb j (length xs)) refl
   where
-    go : (b : Bool) → ltb k n ≡ b → P k
-    go true e = f k (ltb-true k n e)
-    go false e = g k (ltb-false k n e)
-
-pub ends-behind : (gone : ℕ) (rs cs : List ℕ) (k : ℕ) → length rs ≤ k → ends-by gone (getD rs k 0) (getD cs k 0) ≡ false
-ends-behind gone rs cs k h = rw (List·getD-eq-default rs 0 h) refl
-
-pub giving-behind : (ms : List ℕ) (k : ℕ) → length ms ≤ k → getD ms k 0 ≡ 3 → ⊥
-giving-behind ms k h e = omega (arith, List·getD-eq-default ms 0 h)
+    go : (b : Bool) → ltb j (length xs) ≡ b → eqb (getD xs j 0) 3 ≡ false
+    go true e = ne-eqb (getD xs j 0) 3 (h j (ltb-true j (length xs) e))
+    go false e = rw (List·getD-eq-default xs 0 (ltb-false j (length xs) e)) refl
 
 -- ---- channels
-quiet-cell : (gone : ℕ) (rs cs gs ms : List ℕ) → ((j : ℕ) → ends-by gone (getD rs j 0) (getD cs j 0) ≡ false) → (i : ℕ)
-    → ends-by gone (getD (channel-cells rs cs gs ms) i no-channel .role) (getD (channel-cells rs cs gs ms) i no-channel .chair) ≡ false
+quiet-cell : (gone : ℕ) (rs cs gs ms : List ℕ) (j : ℕ) → ends-by gone (getD rs j 0) (getD cs j 0) ≡ false
+    → ends-by gone (getD (channel-cells rs cs gs ms) j no-channel .role) (getD (channel-cells rs cs gs ms) j no-channel .chair) ≡ false
 unfolding channel-cells
-quiet-cell gone [] cs gs ms h i = refl
-quiet-cell gone (r ∷ rs) [] gs ms h i = refl
-quiet-cell gone (r ∷ rs) (c ∷ cs) [] ms h i = refl
-quiet-cell gone (r ∷ rs) (c ∷ cs) (g ∷ gs) [] h i = refl
-quiet-cell gone (r ∷ rs) (c ∷ cs) (g ∷ gs) (m ∷ ms) h zero = h zero
-quiet-cell gone (r ∷ rs) (c ∷ cs) (g ∷ gs) (m ∷ ms) h (suc i) = quiet-cell gone rs cs gs ms (λ j. h (suc j)) i
+quiet-cell gone [] cs gs ms j h = refl
+quiet-cell gone (r ∷ rs) [] gs ms j h = refl
+quiet-cell gone (r ∷ rs) (c ∷ cs) [] ms j h = refl
+quiet-cell gone (r ∷ rs) (c ∷ cs) (g ∷ gs) [] j h = refl
+quiet-cell gone (r ∷ rs) (c ∷ cs) (g ∷ gs) (m ∷ ms) zero h = h
+quiet-cell gone (r ∷ rs) (c ∷ cs) (g ∷ gs) (m ∷ ms) (suc j) h = quiet-cell gone rs cs gs ms j h
 
 quiet-kind : (us : Users) (gone live c : ℕ) (ch : Channel) → ends-by gone (ch .role) (ch .chair) ≡ false → ended us gone live c (kind ch) ≡ []
 unfolding kind ended
@@ -62,45 +53,58 @@ quiet-kind us gone live c ch h = go (eqb (ch .role) 2) (eqb (ch .role) 3) (eqb (
     go false false true e = refl
     go false false false e = refl
 
-pub quiet-ends : (us : Users) (ids roles chairs guests marks : List ℕ) (gone live : ℕ) → ((j : ℕ) → ends-by gone (getD roles j 0) (getD chairs j 0) ≡ false)
-    → (c : ℕ) → end-at us (channels-of ids roles chairs guests marks) gone live c ≡ []
-unfolding load
-quiet-ends us ids roles chairs guests marks gone live h c = go (find ids c)
-  where
-    go : (w : Place) → ended us gone live c (kind (load (channel-cells roles chairs guests marks) w no-channel)) ≡ []
-    go (At i) = quiet-kind us gone live c _ (quiet-cell gone roles chairs guests marks h i)
-    go Nowhere = quiet-kind us gone live c no-channel refl
+abbrev pub ends-there : (gone : ℕ) (roles chairs : List ℕ) → ℕ → Bool
+ends-there gone roles chairs j = ends-by gone (getD roles j 0) (getD chairs j 0)
+
+module _ (us : Users) (ids roles chairs guests marks : List ℕ) (gone live : ℕ) where
+  abbrev end-of : ℕ → List Sent
+  end-of = end-at us (channels-of ids roles chairs guests marks) gone live
+
+  quiet-end : (c j : ℕ) → find ids c ≡ At j → ends-there gone roles chairs j ≡ false → end-of c ≡ []
+  unfolding load
+  quiet-end c j e h = rw e (quiet-kind us gone live c (getD (channel-cells roles chairs guests marks) j no-channel) (quiet-cell gone roles chairs guests marks j h))
+
+  -- only those count that end
+  pub ends-listed : each end-of (inOrder ids) ≡ each end-of (inOrder (keep (ltb 0) (picked (ends-there gone roles chairs) 0 ids)))
+  ends-listed = each-listed end-of (ends-there gone roles chairs) ids quiet-end
+
+  pub ends-none : ((j : ℕ) → j < length roles → getD roles j 0 ≡ 3 → ⊥) → each end-of (inOrder ids) ≡ []
+  ends-none h = each-none end-of (ends-there gone roles chairs) ids quiet-end (λ j. rw (none-is roles h j) refl)
 
 -- ---- tokens
-still-cell : (ms vs : List ℕ) → ((j : ℕ) → getD ms j 0 ≡ 3 → ⊥) → (i : ℕ) → getD (token-cells ms vs) i no-token .mode ≡ 3 → ⊥
+still-cell : (ms vs : List ℕ) (j : ℕ) → eqb (getD ms j 0) 3 ≡ false → eqb (getD (token-cells ms vs) j no-token .mode) 3 ≡ false
 unfolding token-cells
-still-cell [] vs h i e = h i e
-still-cell (m ∷ ms) [] h i e = omega (arith, e)
-still-cell (m ∷ ms) (v ∷ vs) h zero e = h zero e
-still-cell (m ∷ ms) (v ∷ vs) h (suc i) e = still-cell ms vs (λ j. h (suc j)) i e
+still-cell [] vs j h = refl
+still-cell (m ∷ ms) [] j h = refl
+still-cell (m ∷ ms) (v ∷ vs) zero h = h
+still-cell (m ∷ ms) (v ∷ vs) (suc j) h = still-cell ms vs j h
 
-still-token : (us : Users) (gone k : ℕ) (t : Token) → (t .mode ≡ 3 → ⊥) → returned us gone k (hold t) ≡ []
+still-token : (us : Users) (gone k : ℕ) (t : Token) → eqb (t .mode) 3 ≡ false → returned us gone k (hold t) ≡ []
 unfolding hold returned
-still-token us gone k t h = go (eqb (t .mode) 1) (eqb (t .mode) 2) (eqb (t .mode) 3) refl (eqb (t .mode) 4)
+still-token us gone k t h = rw h (go (eqb (t .mode) 1) (eqb (t .mode) 2) (eqb (t .mode) 4))
   where
-    go : (a b d : Bool) → eqb (t .mode) 3 ≡ d → (e : Bool)
-        → returned us gone k (
-        if a then Grabbed (t .value % 64)
-        else if b then Inhibited (t .value)
-        else if d then Giving (t .value / 64 % 64) (t .value % 64)
-        else if e then Given (t .value % 64)
-        else Free
-        ) ≡ []
-    go true b d q e = refl
-    go false true d q e = refl
-    go false false true q e = absurd (h (eqb-true (t .mode) 3 q))
-    go false false false q true = refl
-    go false false false q false = refl
+    go : (a b e : Bool) → returned us gone k (if a then Grabbed (t .value % 64) else if b then Inhibited (t .value) else if e then Given (t .value % 64) else Free) ≡ []
+    go true b e = refl
+    go false true e = refl
+    go false false true = refl
+    go false false false = refl
 
-pub still-returns : (us : Users) (keys modes values : List ℕ) (gone : ℕ) → ((j : ℕ) → getD modes j 0 ≡ 3 → ⊥) → (k : ℕ) → return-at us (tokens-of keys modes values) gone k ≡ []
-unfolding state load
-still-returns us keys modes values gone h k = go (find keys k)
-  where
-    go : (w : Place) → returned us gone k (hold (load (token-cells modes values) w no-token)) ≡ []
-    go (At i) = still-token us gone k _ (still-cell modes values h i)
-    go Nowhere = still-token us gone k no-token (λ e. omega (arith, e))
+abbrev pub given-there : List ℕ → ℕ → Bool
+given-there modes j = eqb (getD modes j 0) 3
+
+module _ (us : Users) (keys modes values : List ℕ) (gone : ℕ) where
+  abbrev return-of : ℕ → List Sent
+  return-of = return-at us (tokens-of keys modes values) gone
+
+  still-return : (k j : ℕ) → find keys k ≡ At j → given-there modes j ≡ false → return-of k ≡ []
+  unfolding state load
+  still-return k j e h = rw e (still-token us gone k (getD (token-cells modes values) j no-token) (still-cell modes values j h))
+
+  -- only those count that are being given
+  pub returns-coming : coming return-of (length keys) 0 (picked (given-there modes) 0 keys) ≡ records (each return-of (inOrder keys))
+  returns-coming =
+      ap (λ (n : ℕ). coming return-of n 0 (picked (given-there modes) 0 keys)) (sym (picked-length (given-there modes) 0 keys))
+      ∙ coming-all return-of (picked (given-there modes) 0 keys) ∙ ap records (sym (each-picked return-of (given-there modes) keys still-return))
+
+  pub returns-none : ((j : ℕ) → j < length modes → getD modes j 0 ≡ 3 → ⊥) → each return-of (inOrder keys) ≡ []
+  returns-none h = each-none return-of (given-there modes) keys still-return (none-is modes h)

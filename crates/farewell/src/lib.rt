@@ -1,11 +1,11 @@
 // The records that tell of users who leave: DUin by connection, CDin by channel, TVcf by token.
 ghost use mathlib.Core.Path.{_≡_};
-ghost use mathlib.Core.Bool.{false};
-ghost use mathlib.Core.List.{[], _∷_};
-ghost use Prim.Native.Nat.{ℕ, _+_, _≤_};
+ghost use mathlib.Core.List.{[], _∷_, _++_};
+ghost use Prim.Native.Nat.{ℕ, _+_, _<_, _≤_};
+ghost use lib.Dec.{ltb};
 ghost use lib.ListN.{length, take, getD};
-ghost use Rattle.places.specs.Sets.{each};
-ghost use Rattle.places.specs.Places.{inOrder};
+ghost use Rattle.places.specs.Sets.{if_then_else_, keep, each};
+ghost use Rattle.places.specs.Places.{inOrder, picked};
 ghost use Rattle.messages.specs.Named.{TVcf, no-such-user};
 ghost use Rattle.records.specs.Records.{to, records as recordsOf};
 ghost use Rattle.records.specs.Out.{Puts};
@@ -92,8 +92,8 @@ fn put_ended(
     }
 }
 
-// CDin for each channel that ends, ascending.
-fn put_ends(
+// CDin for each of some channels, ascending.
+fn put_listed(
     out: &mut [u8],
     from: usize,
     names: &[u16; 64],
@@ -105,17 +105,18 @@ fn put_ends(
     marks: &[u16; 128],
     gone: u64,
     live: u16,
+    ending: &[u16],
 ) -> usize
-    requires { ⌜ from ≤ 4096 ⌝ }
+    requires { ⌜ (from ≤ 4096) × (length (now ending) ≤ 128) ⌝ }
     ensures { λ r. ⌜ (Puts (now (out .entry)) from (recordsOf (each (end-at (users-of (now (names .entry)) (now (homes .entry)))
         (channels-of (now (ids .entry)) (now (roles .entry)) (now (chairs .entry)) (now (guests .entry)) (now (marks .entry))) gone live)
-        (inOrder (now (ids .entry))))) (now (out .exit)) r) × (r ≤ from + 14336) ⌝ }
+        (inOrder (now (ending .entry))))) (now (out .exit)) r) × (r ≤ from + 14336) ⌝ }
 {
     let mut at = from;
     let mut low: u16 = 0;
-    let mut left = ids[..].len();
+    let mut left = ending.len();
     while 0 < left {
-        let c = places::columns::next(ids, low);
+        let c = places::columns::next(ending, low);
         if c == 0 {
             return at;
         }
@@ -137,23 +138,88 @@ fn ends(role: u8, chair: u8, gone: u64) -> bool
     false
 }
 
-// Some channel ends.
-fn any_ends(roles: &[u8; 128], chairs: &[u8; 128], gone: u64) -> bool
-    ensures { λ r. ⌜ (r ≡ false → (j : ℕ) → ends-by gone (getD (now (roles .entry)) j 0) (getD (now (chairs .entry)) j 0) ≡ false) ⌝ }
+// The channel at place j behind the first n of the list, where it ends.
+fn add_end(
+    ids: &[u16; 128],
+    roles: &[u8; 128],
+    chairs: &[u8; 128],
+    gone: u64,
+    j: usize,
+    ending: &mut [u16; 128],
+    n: usize,
+) -> usize
+    requires { ⌜ (j < 128) × (n < 128) ⌝ }
+    ensures { λ r. ⌜ (take r (now (ending .exit)) ≡ take n (now (ending .entry))
+        ++ (if ends-by gone (getD (now (roles .entry)) j 0) (getD (now (chairs .entry)) j 0) then getD (now (ids .entry)) j 0 ∷ [] else []))
+        × (r ≤ n + 1) × (r ≤ length (now (ending .exit))) ⌝ }
 {
-    let rs = &roles[..];
-    let cs = &chairs[..];
-    let mut i = 0;
-    while i < 128 {
-        if ends(rs[i], cs[i], gone) {
-            return true;
-        }
-        i += 1;
+    // How long the list is: there is room for n + 1 ids.
+    let room = ending[..].len();
+    if ends(roles[j], chairs[j], gone) {
+        ending[n] = ids[j];
+        return n + 1;
     }
-    false
+    n
 }
 
-// CDin for each channel that ends, if any does.
+// The channels that end, in the order of their places: so many.
+fn list_ends(
+    ids: &[u16; 128],
+    roles: &[u8; 128],
+    chairs: &[u8; 128],
+    gone: u64,
+    ending: &mut [u16; 128],
+) -> usize
+    ensures { λ r. ⌜ (take r (now (ending .exit)) ≡ keep (ltb 0) (picked (λ j. ends-by gone (getD (now (roles .entry)) j 0) (getD (now (chairs .entry)) j 0)) 0 (now (ids .entry))))
+        × (r ≤ 128) × (r ≤ length (now (ending .exit))) ⌝ }
+{
+    let mut n = 0;
+    let mut j = places::columns::used_from(ids, 0);
+    while j < 128 {
+        n = add_end(ids, roles, chairs, gone, j, ending, n);
+        j = places::columns::used_from(ids, j + 1);
+    }
+    n
+}
+
+// CDin for each channel that ends, ascending.
+fn put_ends(
+    out: &mut [u8],
+    from: usize,
+    names: &[u16; 64],
+    homes: &[u8; 64],
+    ids: &[u16; 128],
+    roles: &[u8; 128],
+    chairs: &[u8; 128],
+    guests: &[u64; 128],
+    marks: &[u16; 128],
+    gone: u64,
+    live: u16,
+) -> usize
+    requires { ⌜ from ≤ 4096 ⌝ }
+    ensures { λ r. ⌜ (Puts (now (out .entry)) from (recordsOf (each (end-at (users-of (now (names .entry)) (now (homes .entry)))
+        (channels-of (now (ids .entry)) (now (roles .entry)) (now (chairs .entry)) (now (guests .entry)) (now (marks .entry))) gone live)
+        (inOrder (now (ids .entry))))) (now (out .exit)) r) × (r ≤ from + 14336) ⌝ }
+{
+    let mut ending = [0u16; 128];
+    let n = list_ends(ids, roles, chairs, gone, &mut ending);
+    put_listed(
+        out,
+        from,
+        names,
+        homes,
+        ids,
+        roles,
+        chairs,
+        guests,
+        marks,
+        gone,
+        live,
+        &ending[..n],
+    )
+}
+
+// The same; most often no channel is private, role 3, and none ends.
 fn put_any_ends(
     out: &mut [u8],
     from: usize,
@@ -172,7 +238,7 @@ fn put_any_ends(
         (channels-of (now (ids .entry)) (now (roles .entry)) (now (chairs .entry)) (now (guests .entry)) (now (marks .entry))) gone live)
         (inOrder (now (ids .entry))))) (now (out .exit)) r) × (r ≤ from + 14336) ⌝ }
 {
-    if any_ends(roles, chairs, gone) {
+    if places::columns::any_is(roles, 3) {
         return put_ends(
             out,
             from,
@@ -284,7 +350,7 @@ fn put_returns(
     let mut low: u16 = 0;
     let mut left = keys[..].len();
     while 0 < left {
-        let k = places::columns::next(keys, low);
+        let k = places::columns::next_where(keys, modes, 3, low);
         if k == 0 {
             return at;
         }
@@ -296,22 +362,7 @@ fn put_returns(
     at
 }
 
-// Some token is being given.
-fn any_giving(modes: &[u8; 64]) -> bool
-    ensures { λ r. ⌜ (r ≡ false → (j : ℕ) → getD (now (modes .entry)) j 0 ≡ 3 → ⊥) ⌝ }
-{
-    let ms = &modes[..];
-    let mut i = 0;
-    while i < 64 {
-        if ms[i] == 3 {
-            return true;
-        }
-        i += 1;
-    }
-    false
-}
-
-// TVcf for each token that returns to its giver, if any is being given.
+// The same; most often no token is being given, mode 3.
 fn put_any_returns(
     out: &mut [u8],
     from: usize,
@@ -326,7 +377,7 @@ fn put_any_returns(
     ensures { λ r. ⌜ Puts (now (out .entry)) from (recordsOf (each (return-at (users-of (now (names .entry)) (now (homes .entry)))
         (tokens-of (now (keys .entry)) (now (modes .entry)) (now (values .entry))) gone) (inOrder (now (keys .entry))))) (now (out .exit)) r ⌝ }
 {
-    if any_giving(modes) {
+    if places::columns::any_is(modes, 3) {
         return put_returns(out, from, names, homes, keys, modes, values, gone);
     }
     from

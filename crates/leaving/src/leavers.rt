@@ -94,7 +94,7 @@ pub fn all_on(names: &[u16; 64], homes: &[u8; 64], p: u8, list: &mut [u16; 64]) 
     let mut low: u16 = 0;
     let mut left = names[..].len();
     while 0 < left {
-        let u = places::columns::next(names, low);
+        let u = places::columns::next_where(names, homes, p, low);
         if u == 0 {
             return n;
         }

@@ -17,3 +17,4 @@ pub mod Order
 pub mod Answers
 pub mod Turns
 pub mod Sweeps
+pub mod Kept

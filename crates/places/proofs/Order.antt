@@ -87,7 +87,7 @@ module _ (low u : ℕ) where
       go false q rec = rec best l m
 
   -- an id that is there is no less than the next
-  next-of : (best : ℕ) (xs : List ℕ) → ((best ≡ 0 → ⊥) → low < best) → low < u → member u xs ≡ true → (low < next low best xs) × (next low best xs ≤ u)
+  pub next-of : (best : ℕ) (xs : List ℕ) → ((best ≡ 0 → ⊥) → low < best) → low < u → member u xs ≡ true → (low < next low best xs) × (next low best xs ≤ u)
   unfolding next member any
   next-of best [] ok l m = absurd (false≢true m)
   next-of best (x ∷ xs) ok l m = go (eqb u x) refl m (lesser low best x) refl (λ b. next-of b xs)
@@ -101,6 +101,17 @@ module _ (low u : ℕ) where
           next-under best xs (ok (n .0)) (omega (arith, n .1, eqb-true u x i))
       go false i e true q rec = rec x (λ n. less-than low best x q .0) l e
       go false i e false q rec = rec best ok l e
+
+-- the next is above `low`, unless there is none
+pub next-above : (low best : ℕ) (xs : List ℕ) → ((best ≡ 0 → ⊥) → low < best) → (next low best xs ≡ 0 → ⊥) → low < next low best xs
+unfolding next
+next-above low best [] ok n = ok n
+next-above low best (x ∷ xs) ok n = go (lesser low best x) refl n (λ b. next-above low b xs)
+  where
+    go : (b : Bool) → lesser low best x ≡ b → (next low (if b then x else best) xs ≡ 0 → ⊥)
+        → ((c : ℕ) → ((c ≡ 0 → ⊥) → low < c) → (next low c xs ≡ 0 → ⊥) → low < next low c xs) → low < next low (if b then x else best) xs
+    go true q k rec = rec x (λ z. less-than low best x q .0) k
+    go false q k rec = rec best ok k
 
 -- the next is the one so far, or is there
 pub next-there : (low best : ℕ) (xs : List ℕ) → (next low best xs ≡ best → ⊥) → member (next low best xs) xs ≡ true

@@ -2,7 +2,8 @@
 use mathlib.Core.Path.{_≡_, refl, sym, ap, _∙_}
 use mathlib.Core.Bool.{Bool, true, false}
 use mathlib.Core.List.{List, [], _∷_, _++_}
-use Prim.Native.Nat.{ℕ, zero, suc, _+_, _-_, _≤_, _<_}
+use Prim.Native.Nat.{ℕ, zero, suc, _+_, _-_, _≤_, _<_, zero-le}
+use native.Mathlib.Numerals.{add-one}
 use native.Mathlib.Omega.{arith}
 use lib.Dec.{ltb}
 use lib.ListN.{length, getD, take, drop, drop-of-length-le, length-append, length-take}
@@ -130,14 +131,32 @@ module _ (low best x k r : ℕ) (top : x ≤ 65535) (far : low < x → x ≡ k +
           let w = ltb-false k best s in
           omega (arith, held-none low r (omega (arith, more w)), held-none low best v, next-low low old x u)
 
-module _ (low best : ℕ) (ids : List ℕ) (i : ℕ) where
-  pub next-turn : i < length ids → next low best (drop i ids) ≡ next low (next low best (getD ids i 0 ∷ [])) (drop (suc i) ids)
-  unfolding next
-  next-turn h = rw (drop-cons ids i 0 h)
+-- the code's search for the least id above `low`: at place i it holds the best of those before
+pub record Seeking (low : ℕ) (xs : List ℕ) (best i : ℕ) : Type 0 where
+  pub within : i ≤ length xs
+  pub left : next low 0 xs ≡ next low (held low best) (drop i xs)
 
-  pub next-end : length ids ≤ i → next low best (drop i ids) ≡ best
-  unfolding next
-  next-end h = rw (drop-of-length-le ids h)
+module _ {low : ℕ} {xs : List ℕ} where
+  pub seek-start : Seeking low xs 65535 0
+  seek-start = record { within = zero-le; left = ap (λ (b : ℕ). next low b xs) (sym (held-none low 65535 (omega arith))) }
+
+  module _ {best i : ℕ} (s : Seeking low xs best i) where
+    pub seek-turn : (x k r : ℕ) → x ≡ getD xs i 0 → x ≤ 65535 → i < length xs → (low < x → x ≡ k + low + 1) → (x ≤ low → 65535 - low ≤ k)
+        → (k < best → r ≡ k) → (best ≤ k → r ≡ best) → Seeking low xs r (i + 1)
+    unfolding next
+    seek-turn x k r e top h far round less more =
+        record {
+          within = omega arith;
+          left = rw (add-one i, next-held low best x k r top far round less more, e) (s .left ∙ ap (next low (held low best)) (drop-cons xs i 0 h));
+        }
+
+    pub seek-end : (r : ℕ) → length xs ≤ i → (best < 65535 - low → r ≡ best + low + 1) → (65535 - low ≤ best → r ≡ 0) → r ≡ next low 0 xs
+    unfolding next held
+    seek-end r h a b = go (ltb best (65535 - low)) refl ∙ sym (s .left ∙ ap (next low (held low best)) (drop-of-length-le xs h))
+      where
+        go : (t : Bool) → ltb best (65535 - low) ≡ t → r ≡ (if t then best + low + 1 else 0)
+        go true q = a (ltb-true best (65535 - low) q)
+        go false q = b (ltb-false best (65535 - low) q)
 
 -- ---- members
 

@@ -69,6 +69,11 @@ rising (suc n) low ids = elim (next low 0 ids) [ zero ↦ [] | suc x ↦ suc x �
 unfoldable pub inOrder : List ℕ → List ℕ
 inOrder ids = rising (length ids) 0 ids
 
+-- the ids whose places, counted from i, pass a test, each at its own place; 0 at every other
+unfoldable pub picked : (test : (ℕ → Bool)) (i : ℕ) (ids : List ℕ) → List ℕ
+picked test i [] = []
+picked test i (x ∷ ids) = (if test i then x else 0) ∷ picked test (suc i) ids
+
 -- no id stands at two places
 unfoldable pub distinct : List ℕ → Bool
 distinct [] = true

@@ -2,10 +2,11 @@
 ghost use mathlib.Core.Path.{_≡_};
 ghost use mathlib.Core.Bool.{true, false};
 ghost use mathlib.Core.List.{[], _∷_};
-ghost use Prim.Native.Nat.{_+_, _-_, _*_, _<_, _≤_};
-ghost use lib.ListN.{length, drop};
-ghost use Rattle.places.specs.Sets.{member as memberOf};
-ghost use Rattle.places.specs.Places.{first as firstIn, busy, InRow, find as findIn, found, spare as spareIn, used as usedIn, next as nextIn, number, unused as unusedIn};
+ghost use Prim.Native.Nat.{ℕ, _+_, _-_, _*_, _<_, _≤_};
+ghost use lib.Dec.{eqb};
+ghost use lib.ListN.{length, drop, getD};
+ghost use Rattle.places.specs.Sets.{if_then_else_, member as memberOf};
+ghost use Rattle.places.specs.Places.{first as firstIn, busy, InRow, find as findIn, found, spare as spareIn, used as usedIn, next as nextIn, number, picked, unused as unusedIn};
 
 // One of the two, four, eight places from i on holds x. They are looked at together: no branch stands between them.
 fn of_two(ids: &[u16], i: usize, x: u16) -> bool
@@ -195,6 +196,13 @@ fn lesser(a: u16, b: u16) -> u16
     if a < b { a } else { b }
 }
 
+// The id that stands so far behind `low`, or 0.
+fn ahead(low: u16, far: u16) -> u16
+    ensures { λ r. ⌜ (far < 65535 - low → r ≡ far + low + 1) × (65535 - low ≤ far → r ≡ 0) ⌝ }
+{
+    if far < 65535 - low { far + low + 1 } else { 0 }
+}
+
 // The least id above `low`, or 0.
 pub fn next(ids: &[u16], low: u16) -> u16
     ensures { λ r. ⌜ r ≡ nextIn low 0 (now (ids .entry)) ⌝ }
@@ -205,11 +213,41 @@ pub fn next(ids: &[u16], low: u16) -> u16
         best = lesser(behind(low, ids[i]), best);
         i += 1;
     }
-    if best < 65535 - low {
-        best + low + 1
-    } else {
-        0
+    ahead(low, best)
+}
+
+// An id that passes, or 0.
+fn only_if(passes: bool, x: u16) -> u16
+    ensures { λ r. ⌜ r ≡ (if passes then x else 0) ⌝ }
+{
+    if passes { x } else { 0 }
+}
+
+// The least id above `low` of the places whose cell is k, or 0.
+pub fn next_where(ids: &[u16; 64], cells: &[u8; 64], k: u8, low: u16) -> u16
+    ensures { λ r. ⌜ r ≡ nextIn low 0 (picked (λ j. eqb (getD (now (cells .entry)) j 0) k) 0 (now (ids .entry))) ⌝ }
+{
+    let n = ids[..].len();
+    let mut best: u16 = 65535;
+    let mut i = 0;
+    while i < n {
+        best = lesser(behind(low, only_if(cells[i] == k, ids[i])), best);
+        i += 1;
     }
+    ahead(low, best)
+}
+
+// Some cell is k.
+pub fn any_is(cells: &[u8], k: u8) -> bool
+    ensures { λ r. ⌜ (r ≡ false → (j : ℕ) → j < length (now (cells .entry)) → getD (now (cells .entry)) j 0 ≡ k → ⊥) ⌝ }
+{
+    let mut any = false;
+    let mut i = 0;
+    while i < cells.len() {
+        any = any | (cells[i] == k);
+        i += 1;
+    }
+    any
 }
 
 // An id is in a list.

@@ -1,13 +1,13 @@
 -- Nothing is told where no token is being given.
 use Rattle.records.proofs.Telling.{put-nobody}
 use Rattle.domain.specs.Tables.{users-of}
-use Rattle.farewell.proofs.Quiet.{nothing, still-returns}
+use Rattle.farewell.proofs.Quiet.{returns-none}
 use borrow.Author.Needs.{needs}
 use Rattle.farewell.proofs.put_any_returns.Statement.{statement}
 use Rattle.farewell.proofs.put_any_returns.Tie as tie
 
-any-giving-requires : tie.Need-any-giving-requires
-any-giving-requires c κs = search needs
+any-is-requires : tie.Need-any-is-requires
+any-is-requires c κs = search needs
 
 put-returns-requires : tie.Need-put-returns-requires
 put-returns-requires c κs = search needs
@@ -20,11 +20,9 @@ returns c = search needs
 
 returns-2 : tie.Need-returns-2
 returns-2 c =
-    let a = c .before .before .before .args in
-    let us = users-of (a .names .now) (a .homes .now) in
-    let none = still-returns us (a .keys .now) (a .modes .now) (a .values .now) (a .gone) (c .before .any-giving .ensures (c .if1 .left)) in
-    rw (nothing _ none _) (put-nobody (a .out .now) (a .from))
+    let a = c .before .before .before .before .args in
+    rw (returns-none (users-of (a .names .now) (a .homes .now)) (a .keys .now) (a .modes .now) (a .values .now) (a .gone) (c .before .any-is .ensures (c .if1 .left))) (put-nobody (a .out .now) (a .from))
 
 pub put-any-returns-spec : {M : Type 1} → statement M
 put-any-returns-spec =
-    tie.close (tie.spec any-giving-requires put-returns-requires same-length returns returns-2)
+    tie.close (tie.spec any-is-requires put-returns-requires same-length returns returns-2)

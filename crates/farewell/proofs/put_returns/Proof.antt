@@ -3,46 +3,46 @@ use native.Mathlib.Omega.{arith}
 use lib.ListN.{length}
 use borrow.Author.Needs.{needs}
 use Rattle.places.specs.Sets.{each}
-use Rattle.places.specs.Places.{inOrder}
+use Rattle.places.specs.Places.{inOrder, picked}
 use Rattle.records.specs.Records.{records}
 use Rattle.records.proofs.Laying.{Onward, onward-start, onward-step, onward-end}
 use Rattle.domain.specs.Tables.{users-of, tokens-of}
 use Rattle.farewell.specs.Parts.{return-at}
-use Rattle.farewell.proofs.Rounds.{coming, coming-all, coming-next, coming-end, coming-none}
+use Rattle.farewell.proofs.Rounds.{coming, coming-next, coming-end, coming-none}
 use Rattle.farewell.proofs.Parts.{returns-length}
+use Rattle.farewell.proofs.Quiet.{given-there, returns-coming}
 use Rattle.farewell.proofs.put_returns.Statement.{statement}
 use Rattle.farewell.proofs.put_returns.Tie as tie
 
 abbrev Inv-loop : tie.InvT-loop
 Inv-loop out₀ from names homes keys modes values gone at₀ low₀ left₀ out at low left = (left ≤ 64) × (length keys ≤ 64)
     × Onward out₀ from (records (each (return-at (users-of names homes) (tokens-of keys modes values) gone) (inOrder keys))) out at
-    (coming (return-at (users-of names homes) (tokens-of keys modes values) gone) left low keys)
+    (coming (return-at (users-of names homes) (tokens-of keys modes values) gone) left low (picked (given-there modes) 0 keys))
 
 abbrev μ-loop : tie.MeasureT-loop
 μ-loop out₀ from names homes keys modes values gone at₀ low₀ left₀ out at low left = left
 
 loop-holds : tie.Need-loop-holds Inv-loop μ-loop
 loop-holds c = let a = c .before .before .args in
-    let f = return-at (users-of (a .names .now) (a .homes .now)) (tokens-of (a .keys .now) (a .modes .now) (a .values .now)) (a .gone) in
-    (search needs, search needs, rw (coming-all f (a .keys .now)) (onward-start _ _ _))
+    (search needs, search needs, rw (returns-coming (users-of (a .names .now) (a .homes .now)) (a .keys .now) (a .modes .now) (a .values .now) (a .gone)) (onward-start _ _ _))
 
-next-requires : tie.Need-next-requires Inv-loop μ-loop
-next-requires c κs = search needs
+next-where-requires : tie.Need-next-where-requires Inv-loop μ-loop
+next-where-requires c κs = search needs
 
 same-length : tie.Need-same-length Inv-loop μ-loop
-same-length c = c .before .before .before .before .loop .inv .2 .size
+same-length c = c .before .before .before .loop .inv .2 .size
 
 returns : tie.Need-returns Inv-loop μ-loop
-returns c = let a = c .before .before .before .before .before .before .before .args in
+returns c = let a = c .before .before .before .before .before .before .args in
     let f = return-at (users-of (a .names .now) (a .homes .now)) (tokens-of (a .keys .now) (a .modes .now) (a .values .now)) (a .gone) in
-    onward-end (c .before .before .before .before .loop .inv .2) (coming-end f _ _ (c .before .next .result) (c .before .next .ensures) _ (c .if1 .taken))
+    onward-end (c .before .before .before .loop .inv .2) (coming-end f _ _ (c .before .next-where .result) (c .before .next-where .ensures) _ (c .if1 .taken))
 
 state-requires : tie.Need-state-requires Inv-loop μ-loop
 state-requires c κs = search needs
 
 put-returned-requires : tie.Need-put-returned-requires Inv-loop μ-loop
-put-returned-requires c κs = let a = c .before .before .before .before .before .before .before .before .before .args in
-    omega (arith, c .before .before .before .before .before .before .loop .inv .2 .next, returns-length (users-of (a .names .now) (a .homes .now)) (tokens-of (a .keys .now) (a .modes .now) (a .values .now)) (a .gone) (c .before .before .before .before .before .before .loop .inv .1))
+put-returned-requires c κs = let a = c .before .before .before .before .before .before .before .before .args in
+    omega (arith, c .before .before .before .before .before .loop .inv .2 .next, returns-length (users-of (a .names .now) (a .homes .now)) (tokens-of (a .keys .now) (a .modes .now) (a .values .now)) (a .gone) (c .before .before .before .before .before .loop .inv .1))
 
 sub-left : tie.Need-sub-left Inv-loop μ-loop
 sub-left c = search needs
@@ -51,12 +51,12 @@ loop-less : tie.Need-loop-less Inv-loop μ-loop
 loop-less c = search needs
 
 loop-again : tie.Need-loop-again Inv-loop μ-loop
-loop-again c = let b = c .before .before .before .before .before .before .before .before .before .loop in
-    let a = c .before .before .before .before .before .before .before .before .before .before .before .before .args in
+loop-again c = let b = c .before .before .before .before .before .before .before .before .loop in
+    let a = c .before .before .before .before .before .before .before .before .before .before .before .args in
     let f = return-at (users-of (a .names .now) (a .homes .now)) (tokens-of (a .keys .now) (a .modes .now) (a .values .now)) (a .gone) in (
       search needs,
       b .inv .1,
-      onward-step _ _ (b .inv .2) (coming-next f _ _ (c .before .before .before .before .before .before .next .result) (c .before .before .before .before .before .before .next .ensures) _ (search needs) (c .before .before .before .before .before .if1 .left)) (rw (c .before .before .before .before .state .ensures) at (c .before .before .put-returned .ensures)),
+      onward-step _ _ (b .inv .2) (coming-next f _ _ (c .before .before .before .before .before .before .next-where .result) (c .before .before .before .before .before .before .next-where .ensures) _ (search needs) (c .before .before .before .before .before .if1 .left)) (rw (c .before .before .before .before .state .ensures) at (c .before .before .put-returned .ensures)),
     )
 
 same-length-2 : tie.Need-same-length-2 Inv-loop μ-loop
@@ -74,7 +74,7 @@ put-returns-spec =
     Inv-loop
     μ-loop
     loop-holds
-    next-requires
+    next-where-requires
     same-length
     returns
     state-requires

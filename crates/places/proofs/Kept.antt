@@ -1,0 +1,240 @@
+-- Ids in order, where only some of them bring anything: these stand in a column of their own and are taken from there.
+use mathlib.Core.Path.{_≡_, refl, sym, ap, _∙_}
+use mathlib.Core.Bool.{Bool, true, false, true≢false, false≢true}
+use mathlib.Core.List.{List, [], _∷_, _++_, append-nil, append-assoc}
+use Prim.Native.Nat.{ℕ, zero, suc, _+_, _-_, _≤_, _<_, zero-le}
+use native.Mathlib.Numerals.{add-one}
+use native.Mathlib.Omega.{arith}
+use native.Mathlib.Nat.{le-refl, add-zero, zero-add, add-suc, suc-add}
+use lib.Dec.{ltb}
+use lib.ListN.{length, getD, set, take, drop, drop-of-length-le}
+use lib.Seq.{drop-cons, take-suc-set}
+use borrow.Author.Tests.{lt-ltb}
+use Rattle.places.specs.Sets.{if_then_else_, keep, any, each, member}
+use Rattle.places.specs.Places.{Place, At, Nowhere, find, next, rising, inOrder, picked}
+use Rattle.places.proofs.Bools.{and-parts}
+use Rattle.places.proofs.Busy.{Busy}
+use Rattle.places.proofs.Rows.{in-list, find-holds}
+use Rattle.places.proofs.Answers.{stands-found, found-somewhere}
+use Rattle.places.proofs.Members.{member-at, member-where, member-keep}
+use Rattle.places.proofs.Order.{keep-le, above, above-less, next-of, next-above, next-there}
+use Rattle.places.proofs.Turns.{keep-append, rising-turn, rising-end}
+
+-- ---- the next id is the least above `low`
+module _ (low : ℕ) (xs : List ℕ) where
+  next-least : (z : ℕ) → low < z → member z xs ≡ true → (low < next low 0 xs) × (next low 0 xs ≤ z)
+  next-least z h m = next-of low z 0 xs (λ n. absurd (n refl)) h m
+
+  next-is-there : (next low 0 xs ≡ 0 → ⊥) → (low < next low 0 xs) × (member (next low 0 xs) xs ≡ true)
+  next-is-there n = (next-above low 0 xs (λ z. absurd (z refl)) n, next-there low 0 xs n)
+
+  rising-none : ((z : ℕ) → low < z → member z xs ≡ true → ⊥) → (n : ℕ) → rising n low xs ≡ []
+  unfolding rising
+  rising-none f zero = refl
+  rising-none f (suc n) = rising-end n low xs (go (next low 0 xs) refl)
+    where
+      go : (y : ℕ) → next low 0 xs ≡ y → next low 0 xs ≡ 0
+      go zero e = e
+      go (suc y) e = let r = next-is-there (λ q. omega (arith, e, q)) in absurd (f (next low 0 xs) (r .0) (r .1))
+
+-- ---- the ids of `kept` are of `ids`, and every other id of `ids` brings nothing
+module _ {B : Type 0} (f : ℕ → List B) (ids kept : List ℕ) (inside : (x : ℕ) → 0 < x → member x kept ≡ true → member x ids ≡ true)
+    (silent : (x : ℕ) → 0 < x → member x ids ≡ true → member x kept ≡ false → f x ≡ []) where
+  -- above a in the one, above b in the other: what `kept` has above b is above a
+  same-above : (n m a b : ℕ) → above a ids ≤ n → above b kept ≤ m → b ≤ a → ((y : ℕ) → b < y → member y kept ≡ true → a < y)
+      → each f (rising n a ids) ≡ each f (rising m b kept)
+  unfolding each
+  same-above zero m a b hn hm le gap = ap (each f) (rising-none a ids (λ z h k. omega (arith, above-less a z ids h k)) 0 ∙ sym (rising-none b kept none m))
+    where
+      none : (z : ℕ) → b < z → member z kept ≡ true → ⊥
+      none z h k = omega (arith, above-less a z ids (gap z h k) (inside z (omega arith) k))
+  same-above (suc n) m a b hn hm le gap = go (next a 0 ids) refl (λ k c d. same-above n k c d)
+    where
+      go : (x : ℕ) → next a 0 ids ≡ x
+          → ((k c d : ℕ) → above c ids ≤ n → above d kept ≤ k → d ≤ c → ((y : ℕ) → d < y → member y kept ≡ true → c < y) → each f (rising n c ids) ≡ each f (rising k d kept))
+          → each f (rising (suc n) a ids) ≡ each f (rising m b kept)
+      go zero e rec = ap (each f) (rising-end n a ids e ∙ sym (rising-none b kept none m))
+        where
+          none : (z : ℕ) → b < z → member z kept ≡ true → ⊥
+          none z h k = omega (arith, e, next-least a ids z (gap z h k) (inside z (omega arith) k))
+      go (suc w) e rec = ap (each f) (rising-turn n a ids x e (omega arith)) ∙ by (member x kept) refl m hm
+        where
+          x : ℕ
+          x = suc w
+
+          here : (a < x) × (member x ids ≡ true)
+          here = rw e at (next-is-there a ids (λ q. omega (arith, e, q)))
+
+          fewer : above x ids ≤ n
+          fewer = omega (arith, hn, above-less a x ids (here .0) (here .1))
+
+          -- what `kept` has above b is no less than x
+          least : (y : ℕ) → b < y → member y kept ≡ true → x ≤ y
+          least y h k = omega (arith, e, next-least a ids y (gap y h k) (inside y (omega arith) k))
+
+          -- x is the next of `kept` too, or brings nothing
+          by : (t : Bool) → member x kept ≡ t → (k : ℕ) → above b kept ≤ k → f x ++ each f (rising n x ids) ≡ each f (rising k b kept)
+          by true q zero h = absurd (omega (arith, h, above-less b x kept (omega (arith, le, here .0)) q))
+          by true q (suc k) h =
+              let u : b < x = omega (arith, le, here .0) in
+              let v = next-least b kept x u q in
+              let is : next b 0 kept ≡ x = omega (arith, v, least (next b 0 kept) (v .0) (next-is-there b kept (λ z. omega (arith, v, z)) .1)) in
+              rw (rising-turn k b kept x is (omega arith)) (ap (λ (l : List B). f x ++ l) (rec k x x fewer (omega (arith, h, above-less b x kept u q)) (le-refl x) (λ y g m. g)))
+          by false q k h =
+              rw (silent x (omega arith) (here .1) q)
+              (rec k x b fewer h (omega (arith, le, here .0)) (λ y g m. omega (arith, least y g m, other y m)))
+            where
+              other : (y : ℕ) → member y kept ≡ true → x ≡ y → ⊥
+              other y m z = true≢false (sym m ∙ ap (λ (v : ℕ). member v kept) (sym z) ∙ q)
+
+  pub each-same : each f (inOrder ids) ≡ each f (inOrder kept)
+  unfolding inOrder above
+  each-same = same-above (length ids) (length kept) 0 0 (keep-le (ltb 0) ids) (keep-le (ltb 0) kept) (le-refl 0) (λ y h m. h)
+
+-- ---- the ids whose places pass, at their own places
+module _ (test : ℕ → Bool) where
+  pub picked-length : (i : ℕ) (ids : List ℕ) → length (picked test i ids) ≡ length ids
+  unfolding picked
+  picked-length i [] = refl
+  picked-length i (x ∷ ids) = ap suc (picked-length (suc i) ids)
+
+  picked-from : (i : ℕ) (ids : List ℕ) (j : ℕ) → getD (picked test i ids) j 0 ≡ (if test (i + j) then getD ids j 0 else 0)
+  unfolding picked
+  picked-from i [] j = go (test (i + j))
+    where
+      go : (b : Bool) → _≡_ {A = ℕ} 0 (if b then 0 else 0)
+      go true = refl
+      go false = refl
+  picked-from i (x ∷ ids) zero = rw (add-zero i) refl
+  picked-from i (x ∷ ids) (suc j) = rw (add-suc i j, ← suc-add i j) (picked-from (suc i) ids j)
+
+  pub picked-at : (ids : List ℕ) (j : ℕ) → getD (picked test 0 ids) j 0 ≡ (if test j then getD ids j 0 else 0)
+  picked-at ids j = rw (zero-add j) at (picked-from 0 ids j)
+
+-- where every other id brings nothing, these are all that count, at their own places or one behind the other
+module _ {B : Type 0} (f : ℕ → List B) (test : ℕ → Bool) (ids : List ℕ) (silent : (x j : ℕ) → find ids x ≡ At j → test j ≡ false → f x ≡ []) where
+  abbrev those-picked : List ℕ
+  those-picked = picked test 0 ids
+
+  is-there : (x : ℕ) → 0 < x → member x those-picked ≡ true → member x ids ≡ true
+  is-there x h m = go (member-where those-picked x m)
+    where
+      by : (j : ℕ) (b : Bool) → (if b then getD ids j 0 else 0) ≡ x → member x ids ≡ true
+      by j true e = rw e at (member-at ids j (in-list ids j (rw e h)))
+      by j false e = absurd (omega arith)
+
+      go : (j : ℕ) × (getD those-picked j 0 ≡ x) → member x ids ≡ true
+      go (j, e) = by j (test j) (sym (picked-at test ids j) ∙ e)
+
+  place-of : (x : ℕ) → 0 < x → member x ids ≡ true → (j : ℕ) × (find ids x ≡ At j)
+  place-of x h m = let r = member-where ids x m in found-somewhere (find ids x) (stands-found ids x (r .0) h (r .1))
+
+  is-silent : (x : ℕ) → 0 < x → member x ids ≡ true → member x those-picked ≡ false → f x ≡ []
+  is-silent x h m n = go (place-of x h m .0) (place-of x h m .1) (test (place-of x h m .0)) refl
+    where
+      go : (j : ℕ) → find ids x ≡ At j → (b : Bool) → test j ≡ b → f x ≡ []
+      go j e true q =
+          let z : getD those-picked j 0 ≡ x = picked-at test ids j ∙ rw q (find-holds ids x j e .0) in
+          absurd (true≢false (sym (rw z at (member-at those-picked j (in-list those-picked j (rw z h)))) ∙ n))
+      go j e false q = silent x j e q
+
+  pub each-picked : each f (inOrder ids) ≡ each f (inOrder those-picked)
+  each-picked = each-same f ids those-picked is-there is-silent
+
+  pub each-listed : each f (inOrder ids) ≡ each f (inOrder (keep (ltb 0) those-picked))
+  each-listed =
+      each-same f ids (keep (ltb 0) those-picked)
+      (λ x h m. is-there x h (and-parts (ltb 0 x) (member x those-picked) (sym (member-keep (ltb 0) x those-picked) ∙ m) .1))
+      (λ x h m n. is-silent x h m (sym (rw (lt-ltb 0 x h) at (member-keep (ltb 0) x those-picked)) ∙ n))
+
+  pub each-none : ((j : ℕ) → test j ≡ false) → each f (inOrder ids) ≡ []
+  unfolding each inOrder rising member any
+  each-none none =
+      each-same f ids [] (λ x h m. absurd (false≢true m)) (λ x h m n. let r = place-of x h m in silent x (r .0) (r .1) (none (r .0)))
+
+-- ---- a list with one id more, or as it was
+module _ (xs : List ℕ) (n x : ℕ) where
+  pub more-yes : {b : Bool} → n < length xs → b ≡ true → take (n + 1) (set xs n x) ≡ take n xs ++ (if b then x ∷ [] else [])
+  more-yes h e = rw (add-one n, e) (take-suc-set xs n x h)
+
+  pub more-no : {b : Bool} → b ≡ false → take n xs ≡ take n xs ++ (if b then x ∷ [] else [])
+  more-no e = rw e (sym (append-nil (take n xs)))
+
+-- ---- a loop that lists them: at place j the first n of `list` are those before
+pub record Listing (test : ℕ → Bool) (ids list : List ℕ) (n j : ℕ) : Type 0 where
+  pub few : n ≤ j
+  pub within : j ≤ length ids
+  pub room : n ≤ length list
+  pub left : keep (ltb 0) (picked test 0 ids) ≡ take n list ++ keep (ltb 0) (drop j (picked test 0 ids))
+
+module _ (test : ℕ → Bool) (ids : List ℕ) (j : ℕ) where
+  one-place : j < length ids → keep (ltb 0) (drop j (picked test 0 ids)) ≡ keep (ltb 0) ((if test j then getD ids j 0 else 0) ∷ []) ++ keep (ltb 0) (drop (suc j) (picked test 0 ids))
+  one-place h =
+      rw (drop-cons (picked test 0 ids) j 0 (omega (arith, picked-length test 0 ids)), picked-at test ids j)
+      (keep-append (ltb 0) ((if test j then getD ids j 0 else 0) ∷ []) (drop (suc j) (picked test 0 ids)))
+
+  in-use : 0 < getD ids j 0 → keep (ltb 0) ((if test j then getD ids j 0 else 0) ∷ []) ≡ (if test j then getD ids j 0 ∷ [] else [])
+  unfolding keep
+  in-use u = go (test j)
+    where
+      go : (b : Bool) → keep (ltb 0) ((if b then getD ids j 0 else 0) ∷ []) ≡ (if b then getD ids j 0 ∷ [] else [])
+      go true = rw (lt-ltb 0 (getD ids j 0) u)
+      go false = refl
+
+  free : getD ids j 0 ≡ 0 → keep (ltb 0) ((if test j then getD ids j 0 else 0) ∷ []) ≡ []
+  unfolding keep
+  free e = rw e (go (test j))
+    where
+      go : (b : Bool) → keep (ltb 0) ((if b then 0 else 0) ∷ []) ≡ []
+      go true = refl
+      go false = refl
+
+module _ {test : ℕ → Bool} {ids list : List ℕ} where
+  pub list-start : Listing test ids list 0 0
+  list-start = record { few = zero-le; within = zero-le; room = zero-le; left = refl }
+
+  pub list-end : {n j : ℕ} → Listing test ids list n j → length ids ≤ j → take n list ≡ keep (ltb 0) (picked test 0 ids)
+  unfolding keep
+  list-end {n} {j} s h =
+      let k : length (picked test 0 ids) ≤ j = omega (arith, picked-length test 0 ids) in
+      sym (s .left ∙ ap (λ (l : List ℕ). take n list ++ keep (ltb 0) l) (drop-of-length-le (picked test 0 ids) k) ∙ append-nil (take n list))
+
+  -- a free place is passed over, and so are many
+  past-one : {n j : ℕ} → Listing test ids list n j → j < length ids → getD ids j 0 ≡ 0 → Listing test ids list n (suc j)
+  past-one {n} {j} s h e =
+      record {
+        few = omega (arith, s .few);
+        within = h;
+        room = s .room;
+        left = s .left ∙ ap (λ (l : List ℕ). take n list ++ l) (one-place test ids j h ∙ ap (λ (l : List ℕ). l ++ keep (ltb 0) (drop (suc j) (picked test 0 ids))) (free test ids j e));
+      }
+
+  past : (k : ℕ) {n j : ℕ} → Listing test ids list n j → j + k ≤ length ids → ((i : ℕ) → j ≤ i → i < j + k → getD ids i 0 ≡ 0) → Listing test ids list n (j + k)
+  past zero {n} {j} s h f = rw (add-zero j) s
+  past (suc k) {n} {j} s h f =
+      rw (add-suc j k, ← suc-add j k)
+      (past k (past-one s (omega arith) (f j (le-refl j) (omega arith))) (omega arith) (λ i a b. f i (omega arith) (omega arith)))
+
+  module _ {n j : ℕ} (s : Listing test ids list n j) where
+    -- a place in use: its id comes where it passes
+    pub list-turn : {ys : List ℕ} {r : ℕ} → j < length ids → 0 < getD ids j 0 → take r ys ≡ take n list ++ (if test j then getD ids j 0 ∷ [] else [])
+        → r ≤ n + 1 → r ≤ length ys → Listing test ids ys r (j + 1)
+    list-turn {ys} {r} h u e f k =
+        rw (add-one j)
+        (record {
+          few = omega (arith, s .few);
+          within = h;
+          room = k;
+          left = s .left ∙ ap (λ (l : List ℕ). take n list ++ l) (one-place test ids j h ∙ ap (λ (l : List ℕ). l ++ rest) (in-use test ids j u))
+              ∙ sym (append-assoc (take n list) (if test j then getD ids j 0 ∷ [] else []) rest) ∙ ap (λ (l : List ℕ). l ++ rest) (sym e);
+        })
+      where
+        rest : List ℕ
+        rest = keep (ltb 0) (drop (suc j) (picked test 0 ids))
+
+    -- on to the next place in use
+    pub list-on : {k : ℕ} → Busy ids j k → Listing test ids list n k
+    list-on {k} b =
+        let h : j ≤ k = b .behind (s .within) in
+        let e : j + (k - j) ≡ k = omega arith in
+        rw e at (past (k - j) s (omega (arith, b .within)) (λ i p q. b .free i p (omega arith)))
