@@ -99,11 +99,13 @@ fn one_id(s: &[u8]) -> Short
     of_values(17, 1, id_at(s, 1, 1001), 0, 0)
 }
 
-// A user and a channel, a private channel or a token.
-fn two_ids(s: &[u8]) -> Short
-    requires { ⌜ length (now s) ≡ 5 ⌝ }
+// A user and a channel, a private channel or a token: most messages of all, so that a caller may ask for these first, in line.
+pub fn two_ids(s: &[u8]) -> Short
     ensures { λ r. ⌜ (r .ok ≡ true → Shortly (now (s .entry)) r) ⌝ }
 {
+    if s.len() != 5 {
+        return not_short();
+    }
     let o = s[0];
     let low = second_low(o);
     of_values(wide(o) / 4, 2, id_at(s, 1, 1001), id_at(s, 3, low), 0)

@@ -15,10 +15,14 @@ pub struct Understood {
     pub count: usize,
 }
 
-// The short way first; else the long way, which stores the ids that are listed.
+// The short way first, two ids before all; else the long way, which stores the ids that are listed.
 pub fn understand(octets: &[u8], listed: &mut [u16; 64]) -> Understood
     ensures { λ r. ⌜ Understands (now (octets .entry)) r (now (listed .exit)) ⌝ }
 {
+    let t = brief::two_ids(octets);
+    if t.ok {
+        return done(t.number, t.first, t.second, t.third, 0);
+    }
     let q = brief::read_short(octets);
     if q.ok {
         return done(q.number, q.first, q.second, q.third, 0);

@@ -2,10 +2,11 @@
 use messages::LIST_LIMIT;
 use messages::MESSAGE_LIMIT;
 use messages::STRING_LIMIT;
-use messages::count_of;
-use messages::form_of;
-use messages::kind_of;
-use messages::tail_of;
+use messages::count_in;
+use messages::entry_of;
+use messages::form_in;
+use messages::kind_in;
+use messages::tail_in;
 use octets::left_at;
 use octets::octets_of;
 use octets::wide;
@@ -18,7 +19,7 @@ ghost use lib.Dec.{ltb};
 ghost use Rattle.octets.specs.Octets.{anId, aNumber, size, octetsOf, lengthOctets, writeItem, fitsItem, fitsTail, writeTail};
 ghost use Rattle.messages.specs.Limits.{message-limit};
 ghost use Rattle.messages.specs.Messages.{code, item};
-ghost use Rattle.messages.specs.Columns.{fieldOf, fieldsOf, tailOf, tailAt};
+ghost use Rattle.messages.specs.Columns.{packedAt, fieldOf, fieldsOf, tailOf, tailAt};
 ghost use Rattle.messages.specs.Codec.{fitsFields, bit, ok};
 ghost use Rattle.octets.specs.Places.{Puts, Clear};
 ghost use Rattle.writer.specs.Writing.{Lays, Below, fieldsEnd, fieldUpto, fieldsUpto, tailUpto, bodyUpto, MayPut, PutsField, PutsFields, PutsHead, itemsFor, given, extent, Encodes, encodeOf, itemOf, limitOf, widthOf};
@@ -188,15 +189,15 @@ fn put_field(s: &mut [u8], at: usize, kind: u8, v: u32) -> usize
     }
 }
 
-// The bit behind the fields of a message, or 8.
-fn fields_end(number: u32, from: usize, values: &[u32]) -> Wrote
-    requires { ⌜ (from ≤ 8) × (length (now values) ≤ 4) ⌝ }
+// The bit behind the fields of a message, by its number and the line of the table that is looked up for it once; or 8.
+fn fields_end(number: u32, line: u32, from: usize, values: &[u32]) -> Wrote
+    requires { ⌜ (from ≤ 8) × (length (now values) ≤ 4) × (line ≡ packedAt number) ⌝ }
     ensures { λ r. ⌜ (r ≡ fieldsUpto (fieldsOf number (length (now (values .entry)))) (now (values .entry)) from) × Below 200 r ⌝ }
 {
     let mut at = from;
     let mut i = 0;
     while i < values.len() {
-        let kind = kind_of(number, i);
+        let kind = kind_in(line, i);
         let g = field_end(kind, values[i], at);
         match g {
             Wrote::Not(n) => return Wrote::Not(n),
@@ -210,14 +211,14 @@ fn fields_end(number: u32, from: usize, values: &[u32]) -> Wrote
 }
 
 // The fields of a message, written up to an octet.
-fn put_fields(s: &mut [u8], from: usize, number: u32, values: &[u32]) -> usize
-    requires { ⌜ (length (now values) ≤ 4) × (length (now s) ≤ message-limit) × Clear (now s) from × (fitsFields (fieldsOf number (length (now values))) (now values) ≡ true) × (fieldsEnd (fieldsOf number (length (now values))) (now values) from ≤ length (now s) * 8) ⌝ }
+fn put_fields(s: &mut [u8], from: usize, number: u32, line: u32, values: &[u32]) -> usize
+    requires { ⌜ (line ≡ packedAt number) × (length (now values) ≤ 4) × (length (now s) ≤ message-limit) × Clear (now s) from × (fitsFields (fieldsOf number (length (now values))) (now values) ≡ true) × (fieldsEnd (fieldsOf number (length (now values))) (now values) from ≤ length (now s) * 8) ⌝ }
     ensures { λ r. ⌜ PutsFields (now (s .entry)) from (fieldsOf number (length (now (values .entry)))) (now (values .entry)) (now (s .exit)) r ⌝ }
 {
     let mut at = from;
     let mut i = 0;
     while i < values.len() {
-        let kind = kind_of(number, i);
+        let kind = kind_in(line, i);
         at = put_field(s, at, kind, values[i]);
         i += 1;
     }
@@ -337,15 +338,22 @@ fn put_tail(s: &mut [u8], from: usize, kind: u8, ids: &[u16], octets: &[u8])
 }
 
 // How many octets a message takes by its fields and what follows them; or 8; or 4 above the limit.
-fn body_size(number: u32, from: usize, values: &[u32], ids: &[u16], octets: &[u8]) -> Wrote
-    requires { ⌜ (from ≤ 8) × (length (now values) ≤ 4) ⌝ }
+fn body_size(
+    number: u32,
+    line: u32,
+    from: usize,
+    values: &[u32],
+    ids: &[u16],
+    octets: &[u8],
+) -> Wrote
+    requires { ⌜ (from ≤ 8) × (length (now values) ≤ 4) × (line ≡ packedAt number) ⌝ }
     ensures { λ r. ⌜ r ≡ bodyUpto from (fieldsOf number (length (now (values .entry)))) (tailOf (tailAt number)) (now (values .entry)) (itemsFor (tailAt number) (now (ids .entry)) (now (octets .entry))) ⌝ }
 {
-    let f = fields_end(number, from, values);
+    let f = fields_end(number, line, from, values);
     match f {
         Wrote::Not(n) => Wrote::Not(n),
         Wrote::Upto(at) => {
-            let t = tail_size(tail_of(number), ids, octets);
+            let t = tail_size(tail_in(line), ids, octets);
             match t {
                 Wrote::Not(n) => Wrote::Not(n),
                 Wrote::Upto(k) => {
@@ -362,21 +370,22 @@ fn body_size(number: u32, from: usize, values: &[u32], ids: &[u16], octets: &[u8
 }
 
 // How many octets a message takes, or its refusal.
-fn message_size(number: u32, values: &[u32], ids: &[u16], octets: &[u8]) -> Wrote
+fn message_size(number: u32, line: u32, values: &[u32], ids: &[u16], octets: &[u8]) -> Wrote
+    requires { ⌜ line ≡ packedAt number ⌝ }
     ensures { λ r. ⌜ r ≡ extent (encodeOf (given number (now (values .entry)) (now (ids .entry)) (now (octets .entry)))) ⌝ }
 {
-    let form = form_of(number) as usize;
+    let form = form_in(line) as usize;
     if 1 < form {
         return Wrote::Not(7);
     }
-    let count = count_of(number);
+    let count = count_in(line);
     if values.len() < count {
         return Wrote::Not(8);
     }
     if count + form < values.len() {
         return Wrote::Not(8);
     }
-    body_size(number, 6 + form, values, ids, octets)
+    body_size(number, line, 6 + form, values, ids, octets)
 }
 
 // The bit that says whether the OPTIONAL field is there; the number and that bit, written.
@@ -399,29 +408,30 @@ fn put_head(s: &mut [u8], number: u32, form: usize, present: u32) -> usize
 }
 
 // A message, into just the octets that it takes.
-fn put_message(number: u32, values: &[u32], ids: &[u16], octets: &[u8], out: &mut [u8])
-    requires { ⌜ extent (encodeOf (given number (now values) (now ids) (now octets))) ≡ Wrote.Upto (length (now out)) ⌝ }
+fn put_message(number: u32, line: u32, values: &[u32], ids: &[u16], octets: &[u8], out: &mut [u8])
+    requires { ⌜ (line ≡ packedAt number) × (extent (encodeOf (given number (now values) (now ids) (now octets))) ≡ Wrote.Upto (length (now out))) ⌝ }
     ensures { λ _. ⌜ encodeOf (given number (now (values .entry)) (now (ids .entry)) (now (octets .entry))) ≡ ok (now (out .exit)) ⌝ }
 {
-    let form = form_of(number) as usize;
-    let present = present_of(count_of(number), values.len());
+    let form = form_in(line) as usize;
+    let present = present_of(count_in(line), values.len());
     let at = put_head(out, number, form, present);
-    let next = put_fields(out, at, number, values);
-    put_tail(out, next, tail_of(number), ids, octets);
+    let next = put_fields(out, at, number, line, values);
+    put_tail(out, next, tail_in(line), ids, octets);
 }
 
 // The octets of a message, at the start of the room lent: how many; or a refusal, with the room untouched.
 pub fn encode(number: u32, values: &[u32], ids: &[u16], octets: &[u8], out: &mut [u8]) -> Wrote
     ensures { λ r. ⌜ Encodes (given number (now (values .entry)) (now (ids .entry)) (now (octets .entry))) (now (out .entry)) r (now (out .exit)) ⌝ }
 {
-    let size = message_size(number, values, ids, octets);
+    let line = entry_of(number);
+    let size = message_size(number, line, values, ids, octets);
     match size {
         Wrote::Not(n) => Wrote::Not(n),
         Wrote::Upto(n) => {
             if out.len() < n {
                 return Wrote::Not(9);
             }
-            put_message(number, values, ids, octets, &mut out[..n]);
+            put_message(number, line, values, ids, octets, &mut out[..n]);
             Wrote::Upto(n)
         }
     }

@@ -2,10 +2,17 @@ use mathlib.Core.Path.{refl, sym, _∙_}
 use native.Mathlib.Omega.{arith}
 use Prim.Native.Nat.{_≤_}
 use lib.ListN.{getD}
+use Rattle.reader.proofs.HeldLaws.{unlike}
 use Rattle.brief.proofs.ShortLaws.{none-left, id-before, shortly}
 use borrow.Author.Needs.{needs}
 use Rattle.brief.proofs.two_ids.Statement.{statement}
 use Rattle.brief.proofs.two_ids.Tie as tie
+
+not-short-requires : tie.Need-not-short-requires
+not-short-requires c κs = search needs
+
+returns : tie.Need-returns
+returns c k = absurd (unlike (sym (c .not-short .ensures) ∙ k))
 
 shared-slice-read-o : tie.Need-shared-slice-read-o
 shared-slice-read-o c = search needs
@@ -25,9 +32,9 @@ id-at-requires-2 c κs = search needs
 of-values-requires : tie.Need-of-values-requires
 of-values-requires c κs = search needs
 
-returns : tie.Need-returns
-returns c k =
-    let s = c .before .before .before .before .before .before .before .args .s .now in
+returns-2 : tie.Need-returns-2
+returns-2 c k =
+    let s = c .before .before .before .before .before .before .before .before .args .s .now in
     let m = c .of-values .ensures k in
     let second = c .before .before .before .before .second-low .ensures in
     let low : c .before .before .before .before .second-low .result ≤ 65535 = omega (arith, c .before .id-at2 .ensures .least, m .second) in
@@ -39,10 +46,12 @@ pub two-ids-spec : {M : Type 1} → statement M
 two-ids-spec =
     tie.close
     (tie.spec
+    not-short-requires
+    returns
     shared-slice-read-o
     second-low-requires
     wide-requires
     id-at-requires
     id-at-requires-2
     of-values-requires
-    returns)
+    returns-2)

@@ -1,3 +1,5 @@
+use mathlib.Core.Path.{_∙_}
+use Rattle.messages.proofs.ColumnLaws.{tail-at}
 use Rattle.writer.proofs.MessageLaws.{body-not, body-tail-not, body-fine, body-over}
 use Rattle.writer.proofs.FieldLaws.{below-upto}
 use native.Mathlib.Omega.{arith}
@@ -14,8 +16,8 @@ enum-known-f c = search needs
 enum-known-f-2 : tie.Need-enum-known-f-2
 enum-known-f-2 c = search needs
 
-tail-of-requires : tie.Need-tail-of-requires
-tail-of-requires c κs = search needs
+tail-in-requires : tie.Need-tail-in-requires
+tail-in-requires c κs = search needs
 
 tail-size-requires : tie.Need-tail-size-requires
 tail-size-requires c κs = search needs
@@ -36,13 +38,13 @@ returns : tie.Need-returns
 returns c = body-not _ _ _ _ _ _ (c .before .before .before .fields-end .ensures .0) _ (c .before .f .given .1)
 
 returns-2 : tie.Need-returns-2
-returns-2 c = body-tail-not _ _ _ _ _ _ (c .before .before .before .before .before .before .before .before .fields-end .ensures .0) _ (rw (c .before .before .before .before .tail-of .ensures) at (c .before .before .before .tail-size .ensures .0)) _ (c .before .before .before .before .before .before .f2 .given .1) _ (c .before .t .given .1)
+returns-2 c = body-tail-not _ _ _ _ _ _ (c .before .before .before .before .before .before .before .before .fields-end .ensures .0) _ (rw (c .before .before .before .before .tail-in .ensures ∙ tail-at _ _ (c .before .before .before .before .before .before .before .before .before .before .before .before .pre .2)) at (c .before .before .before .tail-size .ensures .0)) _ (c .before .before .before .before .before .before .f2 .given .1) _ (c .before .t .given .1)
 
 returns-3 : tie.Need-returns-3
-returns-3 c = body-fine _ _ _ _ _ _ (c .before .before .before .before .before .before .before .before .before .fields-end .ensures .0) _ (rw (c .before .before .before .before .before .tail-of .ensures) at (c .before .before .before .before .tail-size .ensures .0)) _ (c .before .before .before .before .before .before .before .f2 .given .1) _ (c .before .before .t2 .given .1) (c .if1 .taken)
+returns-3 c = body-fine _ _ _ _ _ _ (c .before .before .before .before .before .before .before .before .before .fields-end .ensures .0) _ (rw (c .before .before .before .before .before .tail-in .ensures ∙ tail-at _ _ (c .before .before .before .before .before .before .before .before .before .before .before .before .before .pre .2)) at (c .before .before .before .before .tail-size .ensures .0)) _ (c .before .before .before .before .before .before .before .f2 .given .1) _ (c .before .before .t2 .given .1) (c .if1 .taken)
 
 returns-4 : tie.Need-returns-4
-returns-4 c = body-over _ _ _ _ _ _ (c .before .before .before .before .before .before .before .before .before .fields-end .ensures .0) _ (rw (c .before .before .before .before .before .tail-of .ensures) at (c .before .before .before .before .tail-size .ensures .0)) _ (c .before .before .before .before .before .before .before .f2 .given .1) _ (c .before .before .t2 .given .1) (c .if1 .left)
+returns-4 c = body-over _ _ _ _ _ _ (c .before .before .before .before .before .before .before .before .before .fields-end .ensures .0) _ (rw (c .before .before .before .before .before .tail-in .ensures ∙ tail-at _ _ (c .before .before .before .before .before .before .before .before .before .before .before .before .before .pre .2)) at (c .before .before .before .before .tail-size .ensures .0)) _ (c .before .before .before .before .before .before .before .f2 .given .1) _ (c .before .before .t2 .given .1) (c .if1 .left)
 
 pub body-size-spec : {M : Type 1} → statement M
 body-size-spec =
@@ -51,7 +53,7 @@ body-size-spec =
     fields-end-requires
     enum-known-f
     enum-known-f-2
-    tail-of-requires
+    tail-in-requires
     tail-size-requires
     enum-known-t
     enum-known-t-2

@@ -6,6 +6,9 @@ use borrow.Author.Needs.{needs}
 use Rattle.writer.proofs.encode.Statement.{statement}
 use Rattle.writer.proofs.encode.Tie as tie
 
+entry-of-requires : tie.Need-entry-of-requires
+entry-of-requires c κs = search needs
+
 message-size-requires : tie.Need-message-size-requires
 message-size-requires c κs = search needs
 
@@ -25,7 +28,7 @@ slice-aggregate-put-message : tie.Need-slice-aggregate-put-message
 slice-aggregate-put-message c = sym (length-take-le _ _ (c .before .if1 .left))
 
 put-message-requires : tie.Need-put-message-requires
-put-message-requires c κs = sym (c .before .before .before .before .before .message-size .ensures) ∙ c .before .before .before .size2 .given .1 ∙ ap Upto (sym (length-take-le _ _ (c .before .if1 .left)))
+put-message-requires c κs = (c .before .before .before .before .before .before .entry-of .ensures, sym (c .before .before .before .before .before .message-size .ensures) ∙ c .before .before .before .size2 .given .1 ∙ ap Upto (sym (length-take-le _ _ (c .before .if1 .left))))
 
 returns-2 : tie.Need-returns-2
 returns-2 c = filled-not _ _ _ (sym (c .before .size .given .1) ∙ c .before .before .before .message-size .ensures)
@@ -40,6 +43,7 @@ pub encode-spec : {M : Type 1} → statement M
 encode-spec =
     tie.close
     (tie.spec
+    entry-of-requires
     message-size-requires
     enum-known-size
     enum-known-size-2

@@ -1,3 +1,5 @@
+use mathlib.Core.Path.{_∙_}
+use Rattle.messages.proofs.ColumnLaws.{kind-at}
 use Rattle.writer.proofs.FieldLaws.{Putting, putting-none, putting-fits, putting-room, putting-more, putting-near, putting-all}
 use Rattle.messages.specs.Columns.{fieldsOf}
 use lib.ListN.{length}
@@ -8,16 +10,16 @@ use Rattle.writer.proofs.put_fields.Statement.{statement}
 use Rattle.writer.proofs.put_fields.Tie as tie
 
 abbrev Inv-loop : tie.InvT-loop
-Inv-loop s₀ from number values at₀ i₀ s at i = Putting s₀ from (fieldsOf number (length values)) values s at i
+Inv-loop s₀ from number line values at₀ i₀ s at i = Putting s₀ from (fieldsOf number (length values)) values s at i
 
 abbrev μ-loop : tie.MeasureT-loop
-μ-loop s₀ from number values at₀ i₀ s at i = length values - i
+μ-loop s₀ from number line values at₀ i₀ s at i = length values - i
 
 loop-holds : tie.Need-loop-holds Inv-loop μ-loop
-loop-holds c = putting-none _ _ _ _ (c .before .before .pre .3) (c .before .before .pre .2)
+loop-holds c = putting-none _ _ _ _ (c .before .before .pre .4) (c .before .before .pre .3)
 
-kind-of-requires : tie.Need-kind-of-requires Inv-loop μ-loop
-kind-of-requires c κs = search needs
+kind-in-requires : tie.Need-kind-in-requires Inv-loop μ-loop
+kind-in-requires c κs = search needs
 
 mul-put-field : tie.Need-mul-put-field Inv-loop μ-loop
 mul-put-field c = search needs
@@ -26,7 +28,7 @@ shared-slice-read-put-field : tie.Need-shared-slice-read-put-field Inv-loop μ-l
 shared-slice-read-put-field c = search needs
 
 put-field-requires : tie.Need-put-field-requires Inv-loop μ-loop
-put-field-requires c κs = rw (c .before .before .kind-of .ensures) (record { fits = putting-fits _ (c .before .before .before .before .loop .inv) (search needs) (c .before .before .before .before .before .before .before .pre .4) (c .before .before .before .loop-test .taken); room = putting-room _ (c .before .before .before .before .loop .inv) (search needs) (c .before .before .before .before .before .before .before .pre .4) (c .before .before .before .loop-test .taken); short = omega (arith, c .before .before .before .before .loop .inv .size, c .before .before .before .before .before .before .before .pre .1); clear = c .before .before .before .before .loop .inv .clear })
+put-field-requires c κs = rw (c .before .before .kind-in .ensures ∙ kind-at _ _ (c .before .before .before .before .before .before .before .pre .0) _) (record { fits = putting-fits _ (c .before .before .before .before .loop .inv) (search needs) (c .before .before .before .before .before .before .before .pre .5) (c .before .before .before .loop-test .taken); room = putting-room _ (c .before .before .before .before .loop .inv) (search needs) (c .before .before .before .before .before .before .before .pre .5) (c .before .before .before .loop-test .taken); short = omega (arith, c .before .before .before .before .loop .inv .size, c .before .before .before .before .before .before .before .pre .2); clear = c .before .before .before .before .loop .inv .clear })
 
 add-i : tie.Need-add-i Inv-loop μ-loop
 add-i c = search needs
@@ -35,16 +37,16 @@ loop-less : tie.Need-loop-less Inv-loop μ-loop
 loop-less c = search needs
 
 loop-again : tie.Need-loop-again Inv-loop μ-loop
-loop-again c = putting-more _ (c .before .before .before .before .before .before .before .loop .inv) (search needs) (c .before .before .before .before .before .before .before .before .before .before .pre .4) (c .before .before .before .before .before .before .loop-test .taken) _ (rw (c .before .before .before .before .before .kind-of .ensures) at (c .before .before .put-field .ensures))
+loop-again c = putting-more _ (c .before .before .before .before .before .before .before .loop .inv) (search needs) (c .before .before .before .before .before .before .before .before .before .before .pre .5) (c .before .before .before .before .before .before .loop-test .taken) _ (rw (c .before .before .before .before .before .kind-in .ensures ∙ kind-at _ _ (c .before .before .before .before .before .before .before .before .before .before .pre .0) _) at (c .before .before .put-field .ensures))
 
 add-result : tie.Need-add-result Inv-loop μ-loop
-add-result c = omega (arith, putting-near _ (c .before .loop .inv) (search needs) (c .before .before .before .before .pre .4) (c .before .before .before .before .pre .1))
+add-result c = omega (arith, putting-near _ (c .before .loop .inv) (search needs) (c .before .before .before .before .pre .5) (c .before .before .before .before .pre .2))
 
 same-length : tie.Need-same-length Inv-loop μ-loop
 same-length c = c .before .loop .inv .size
 
 returns : tie.Need-returns Inv-loop μ-loop
-returns c = putting-all _ (c .before .loop .inv) (search needs) (c .before .before .before .before .pre .4) (c .loop-test .left)
+returns c = putting-all _ (c .before .loop .inv) (search needs) (c .before .before .before .before .pre .5) (c .loop-test .left)
 
 pub put-fields-spec : {M : Type 1} → statement M
 put-fields-spec =
@@ -53,7 +55,7 @@ put-fields-spec =
     Inv-loop
     μ-loop
     loop-holds
-    kind-of-requires
+    kind-in-requires
     mul-put-field
     shared-slice-read-put-field
     put-field-requires
