@@ -3,7 +3,7 @@ use mathlib.Core.Path.{_≡_, refl, sym, ap, _∙_}
 use mathlib.Core.Bool.{Bool, true, false}
 use mathlib.Core.List.{List}
 use Prim.Native.Nat.{ℕ, zero, suc, _+_, _-_, _*_, _≤_, _<_}
-use native.Mathlib.Nat.{add-mul, add-zero, add-suc}
+use native.Mathlib.Nat.{add-mul, add-zero, add-suc, zero-add, mul-one}
 use native.Mathlib.Omega.{arith}
 use lib.Dec.{eqb, ltb}
 use lib.ListN.{length, getD, drop, drop-of-length-le}
@@ -29,6 +29,10 @@ row-join ids i n m x step a b k l = go (ltb k n) refl
         let s : n + j ≡ k = omega arith in
         let p : i + n + j ≡ i + k = omega arith in
         sym (ap (λ (y : ℕ). getD ids y 0) p) ∙ b j (omega arith) ∙ omega (arith, sym (add-mul n j step) ∙ ap (λ (y : ℕ). y * step) s)
+
+-- from the first place on
+pub row-on : (ids : List ℕ) (i n x : ℕ) → InRow ids 0 i x 1 → InRow ids i n (x + i) 1 → InRow ids 0 (i + n) x 1
+row-on ids i n x a b = row-join ids 0 i n x 1 a (rw (zero-add i, mul-one i) b)
 
 -- ---- the first place in use
 

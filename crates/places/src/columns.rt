@@ -277,13 +277,35 @@ fn seek(ids: &[u16], hint: usize, x: u16) -> usize
     find(ids, x)
 }
 
+// Of n places those that can hold an id tried, each at its own place.
+fn tried(n: usize) -> usize
+    ensures { λ r. ⌜ (r ≤ n) × (r ≤ 128) ⌝ }
+{
+    if n < 128 { n } else { 128 }
+}
+
+// How many places from the first on hold the ids from 1001 on, each its own, passed eight at a time.
+fn in_row(ids: &[u16]) -> usize
+    ensures { λ r. ⌜ (r ≤ 128) × InRow (now (ids .entry)) 0 r 1001 1 ⌝ }
+{
+    let n = tried(ids.len());
+    let mut i = 0;
+    while 8 <= n - i {
+        if !row_of_eight(ids, i, 1001 + i as u16, 1) {
+            return i;
+        }
+        i += 8;
+    }
+    i
+}
+
 // The lowest id from 1001 that no place has, of 129 tried. An id is looked for behind the last: new ids come in their order.
 pub fn unused(ids: &[u16]) -> u16
     ensures { λ r. ⌜ r ≡ unusedIn 128 (now (ids .entry)) 1001 ⌝ }
 {
-    let mut x: u16 = 1001;
-    let mut left: u16 = 128;
-    let mut hint = 0;
+    let mut hint = in_row(ids);
+    let mut x = 1001 + hint as u16;
+    let mut left = 128 - hint as u16;
     while 0 < left {
         let at = seek(ids, hint, x);
         if at == ids.len() {
