@@ -9,10 +9,12 @@ use borrow.Author.Tests.{lt-ltb, le-ltb, ltb-true, ltb-false, eqb-true, eqb-fals
 use lib.Dec.{eqb, ltb}
 use lib.ListN.{length, getD, set, take, drop, drop-of-length-le, length-set}
 use lib.Seq.{take-suc, take-suc-set, drop-cons}
-use Rattle.places.specs.Sets.{if_then_else_, keep, any, null, member, firsts, once, has, those, with, seats}
-use Rattle.places.specs.Places.{Place, At, Nowhere, find, found, number, next, rising, inOrder}
+use Rattle.places.specs.Sets.{if_then_else_, keep, any, null, each, member, firsts, once, has, those, with, seats}
+use Rattle.places.specs.Places.{Place, At, Nowhere, find, found, number, next, rising, inOrder, picked}
 use Rattle.places.proofs.Answers.{Inside, find-inside, number-at, number-none}
+use Rattle.places.proofs.Rows.{getD-any}
 use Rattle.places.proofs.Turns.{keep-append, rising-turn, rising-end}
+use Rattle.places.proofs.Kept.{picked-length, each-picked}
 use Rattle.domain.specs.Tables.{Users, users-of, name, link, attached}
 use Rattle.domain.specs.Leaving.{those-on}
 use Rattle.leaving.specs.Lists.{Holds, Grows, fresh}
@@ -134,40 +136,66 @@ module _ (us : Users) (p : ℕ) (ids xs : List ℕ) (n i : ℕ) (s : Picking us 
   unfolding firsts
   pick-end h k = holds us p (those-on us p (once ids)) (firsts (s .before) (drop i ids)) (s .left) (rw (drop-of-length-le ids h) refl) (omega (arith, s .few, s .inside)) (s .room)
 
--- ---- a loop over the users, ascending
-pub record Gathering (us : Users) (p : ℕ) (ids xs : List ℕ) (n low rest : ℕ) : Type 0 where
+-- ---- the users on p are at the places whose connection is p
+abbrev pub here : (homes : List ℕ) (p : ℕ) → ℕ → Bool
+here homes p j = eqb (getD homes j 0) p
+
+module _ (names homes : List ℕ) (p : ℕ) (size : length homes ≡ length names) (u j : ℕ) (e : find names u ≡ At j) (h : here homes p j ≡ false) where
+  elsewhere : on (users-of names homes) p u ≡ false
+  unfolding on attached chosen link found
+  elsewhere = ap (λ (w : Place). found (chosen (users-of names homes) p w)) e ∙ rw (getD-any homes j 16 0 (omega (arith, find-inside names u j e)), h) refl
+
+  away : those-on (users-of names homes) p (u ∷ []) ≡ []
+  unfolding on those-on keep
+  away = rw elsewhere refl
+
+one-by-one : (us : Users) (p : ℕ) (l : List ℕ) → those-on us p l ≡ each (λ u. those-on us p (u ∷ [])) l
+unfolding each
+one-by-one us p [] = on-none us p
+one-by-one us p (u ∷ l) = on-append us p (u ∷ []) l ∙ ap (λ (r : List ℕ). those-on us p (u ∷ []) ++ r) (one-by-one us p l)
+
+on-here : (names homes : List ℕ) (p : ℕ) → length homes ≡ length names
+    → those-on (users-of names homes) p (inOrder names) ≡ those-on (users-of names homes) p (inOrder (picked (here homes p) 0 names))
+on-here names homes p size =
+    let us = users-of names homes in
+    one-by-one us p (inOrder names) ∙ each-picked (λ u. those-on us p (u ∷ [])) (here homes p) names (away names homes p size) ∙ sym (one-by-one us p (inOrder (picked (here homes p) 0 names)))
+
+-- ---- a loop over them, ascending: `all` is what is to be held
+pub record Gathering (us : Users) (p : ℕ) (all ids xs : List ℕ) (n low rest : ℕ) : Type 0 where
   pub few : n + rest ≤ 64
   pub room : n ≤ length xs
-  pub left : those-on us p (inOrder ids) ≡ take n xs ++ those-on us p (rising rest low ids)
+  pub left : all ≡ take n xs ++ those-on us p (rising rest low ids)
 
-pub gather-start : (us : Users) (p : ℕ) (ids xs : List ℕ) (n : ℕ) → n ≡ length ids → length ids ≡ 64 → Gathering us p ids xs 0 0 n
+pub gather-start : (names homes : List ℕ) (p : ℕ) (xs : List ℕ) (n : ℕ) → n ≡ length names → length names ≡ 64 → length homes ≡ 64
+    → Gathering (users-of names homes) p (those-on (users-of names homes) p (inOrder names)) (picked (here homes p) 0 names) xs 0 0 n
 unfolding inOrder
-gather-start us p ids xs n e h = record { few = omega arith; room = zero-le; left = rw e refl }
+gather-start names homes p xs n e h k =
+    record { few = omega arith; room = zero-le; left = on-here names homes p (omega arith) ∙ ap (λ (m : ℕ). those-on (users-of names homes) p (rising m 0 (picked (here homes p) 0 names))) (picked-length (here homes p) 0 names ∙ sym e) }
 
-module _ (us : Users) (p : ℕ) (ids xs : List ℕ) (n low rest : ℕ) (s : Gathering us p ids xs n low rest) where
-  pub gather-turn : {ys : List ℕ} {r : ℕ} (u : ℕ) → u ≡ next low 0 ids → (u ≡ 0 → ⊥) → 0 < rest → Grows xs n (those-on us p (u ∷ [])) ys r → Gathering us p ids ys r u (rest - 1)
+module _ (us : Users) (p : ℕ) (all ids xs : List ℕ) (n low rest : ℕ) (s : Gathering us p all ids xs n low rest) where
+  pub gather-turn : {ys : List ℕ} {r : ℕ} (u : ℕ) → u ≡ next low 0 ids → (u ≡ 0 → ⊥) → 0 < rest → Grows xs n (those-on us p (u ∷ [])) ys r → Gathering us p all ids ys r u (rest - 1)
   gather-turn u e z h g =
       record {
         few = omega (arith, g .few, s .few);
         room = g .inside;
-        left = onward us p (those-on us p (inOrder ids)) (u ∷ []) (rising (rest - 1) u ids) (rising rest low ids) g (s .left) (go rest h);
+        left = onward us p all (u ∷ []) (rising (rest - 1) u ids) (rising rest low ids) g (s .left) (go rest h);
       }
     where
       go : (k : ℕ) → 0 < k → rising k low ids ≡ u ∷ rising (k - 1) u ids
       go zero y = absurd (omega arith)
       go (suc k) y = let q : suc k - 1 ≡ k = omega arith in rw q (rising-turn k low ids u (sym e) (omega arith))
 
-  pub gather-stop : (u : ℕ) → u ≡ next low 0 ids → u ≡ 0 → Holds xs n (those-on us p (inOrder ids))
+  pub gather-stop : (u : ℕ) → u ≡ next low 0 ids → u ≡ 0 → Holds xs n all
   unfolding rising
-  gather-stop u e z = holds us p (those-on us p (inOrder ids)) (rising rest low ids) (s .left) (go rest) (omega (arith, s .few)) (s .room)
+  gather-stop u e z = holds us p all (rising rest low ids) (s .left) (go rest) (omega (arith, s .few)) (s .room)
     where
       go : (k : ℕ) → rising k low ids ≡ []
       go zero = refl
       go (suc k) = rising-end k low ids (sym e ∙ z)
 
-  pub gather-end : rest ≤ 0 → Holds xs n (those-on us p (inOrder ids))
+  pub gather-end : rest ≤ 0 → Holds xs n all
   unfolding rising
-  gather-end h = holds us p (those-on us p (inOrder ids)) (rising rest low ids) (s .left) (go rest h) (omega (arith, s .few)) (s .room)
+  gather-end h = holds us p all (rising rest low ids) (s .left) (go rest h) (omega (arith, s .few)) (s .room)
     where
       go : (k : ℕ) → k ≤ 0 → rising k low ids ≡ []
       go zero y = refl

@@ -90,6 +90,8 @@ pub fn listed_on(
 pub fn all_on(names: &[u16; 64], homes: &[u8; 64], p: u8, list: &mut [u16; 64]) -> usize
     ensures { λ r. ⌜ Holds (now (list .exit)) r (those-on (users-of (now (names .entry)) (now (homes .entry))) p (inOrder (now (names .entry)))) ⌝ }
 {
+    // How long the columns are: each user has a connection.
+    let all = homes[..].len();
     let mut n = 0;
     let mut low: u16 = 0;
     let mut left = names[..].len();
