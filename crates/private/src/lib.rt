@@ -1,17 +1,19 @@
 // Requests about private channels, on lent columns: CCrq, CDrq, CArq, CErq. Each decides, sends where there is room, then stores.
 ghost use mathlib.Core.Path.{_≡_};
 ghost use mathlib.Core.Bool.{true, false};
-ghost use mathlib.Core.List.{List, [], _∷_, _++_};
+ghost use mathlib.Core.List.{List, [], _∷_};
 ghost use Prim.Native.Nat.{ℕ, _+_, _≤_, _<_};
-ghost use lib.ListN.{take, length};
-ghost use Rattle.places.specs.Sets.{if_then_else_, once, with, seats};
-ghost use Rattle.records.specs.Records.{records as recordsOf, wire};
-ghost use Rattle.records.specs.Out.{Puts, listing};
+ghost use lib.Dec.{eqb};
+ghost use lib.ListN.{length, take, getD, set, replicate};
+ghost use Rattle.places.specs.Sets.{if_then_else_, with, seats};
+ghost use Rattle.records.specs.Records.{records as recordsOf};
+ghost use Rattle.records.specs.Out.{Puts, each-two};
 ghost use Rattle.domain.specs.Cells.{kind};
 ghost use Rattle.domain.specs.Tables.{Users, Channels, users-of, channels-of, channel, hosts as hostsOf, at-limit, grant};
+ghost use Rattle.domain.specs.Numbers.{replyNumber};
 ghost use Rattle.domain.specs.Effects.{Effect, ignored as ignoredBy, settle, answered, sends};
 ghost use Rattle.domain.specs.Channels.{convene as conveneOf, owned, manages, disband as disbandOf, places as placesOf, own, admit as admitOf, expel as expelOf};
-ghost use Rattle.private.specs.Sieve.{admitted as admittedIn, picked, sieved, home, Located, owned-by, says, own-to};
+ghost use Rattle.private.specs.Sieve.{counted, sieved, leads, Takes, Located, Housed, owned-by, says, Begins, own-to, tells, picks, changed, changes};
 use channels::answers;
 use channels::confirms;
 use domain::answer::Answer;
@@ -143,62 +145,88 @@ pub fn disband(
     a
 }
 
-// Which ids of a list count: those not listed before, the attached, the admitted of a mask of places.
+// Whose ids of a list count: of all who are attached, or of the admitted by a mask of places.
 enum Pick {
-    New,
     Attached,
     Admitted(u64),
 }
 
-// A user that is admitted, by a mask of places.
-fn admitted(names: &[u16; 64], adm: u64, v: u16) -> bool
-    ensures { λ r. ⌜ ((homes : List ℕ) → r ≡ admittedIn (users-of (now (names .entry)) homes) adm v) ⌝ }
-{
-    let i = places::columns::find(names, v);
-    if i < 64 {
-        return places::masks::has(adm, i as u8);
-    }
-    false
+// What is taken of a list: how many ids, and the places of their users.
+struct Taken {
+    count: usize,
+    seats: u64,
 }
 
-fn picks(names: &[u16; 64], homes: &[u8; 64], k: Pick, before: &[u16], x: u16) -> bool
-    ensures { λ r. ⌜ r ≡ picked (users-of (now (names .entry)) (now (homes .entry))) k (now (before .entry)) x ⌝ }
+// The user at place i counts.
+fn counts(k: Pick, i: u8) -> bool
+    ensures { λ r. ⌜ r ≡ counted k i ⌝ }
 {
     match k {
-        Pick::New => !places::columns::member(before, x),
-        Pick::Attached => places::columns::find(names, x) < 64,
-        Pick::Admitted(adm) => admitted(names, adm, x),
+        Pick::Attached => true,
+        Pick::Admitted(adm) => places::masks::has(adm, i),
     }
 }
 
-// One more id at the end of those kept, where it is picked.
-fn keep_one(kept: &mut [u16], n: usize, picked: bool, x: u16) -> usize
-    requires { ⌜ n < length (now kept) ⌝ }
-    ensures { λ r. ⌜ (take r (now (kept .exit)) ≡ take n (now (kept .entry)) ++ (if picked then x ∷ [] else [])) × (r ≤ n + 1) ⌝ }
+// Where the first of a connection's users stands in the list: at n, unless one came before.
+fn lead(share: u8, first: u8, n: u8) -> u8
+    ensures { λ r. ⌜ r ≡ leads share first n ⌝ }
 {
-    if picked {
-        kept[n] = x;
-        return n + 1;
-    }
-    n
+    if share == 0 { n } else { first }
 }
 
-// Those of a list that are picked, in their order; how many they are.
-fn sieve(names: &[u16; 64], homes: &[u8; 64], k: Pick, list: &[u16], kept: &mut [u16]) -> usize
-    requires { ⌜ length (now list) ≤ length (now kept) ⌝ }
-    ensures { λ r. ⌜ (take r (now (kept .exit)) ≡ sieved (users-of (now (names .entry)) (now (homes .entry))) k (now (list .entry))) × (r ≤ length (now (list .entry))) ⌝ }
+// Connection q has one user more, at n of the list; any other number is no connection.
+fn add_share(shares: &mut [u8], firsts: &mut [u8], q: u8, n: u8)
+    requires { ⌜ (length (now shares) ≡ 16) × (length (now firsts) ≡ 16) × (q < 16 → getD (now shares) q 0 ≤ 64) ⌝ }
+    ensures { λ _. ⌜ (now (shares .exit) ≡ set (now (shares .entry)) q (getD (now (shares .entry)) q 0 + 1))
+        × (now (firsts .exit) ≡ set (now (firsts .entry)) q (leads (getD (now (shares .entry)) q 0) (getD (now (firsts .entry)) q 0) n)) ⌝ }
 {
-    let mut n = 0;
-    let mut i = 0;
-    while i < list.len() {
-        let picked = picks(names, homes, k, &list[..i], list[i]);
-        n = keep_one(kept, n, picked, list[i]);
-        i += 1;
+    if q < 16 {
+        let i = q as usize;
+        firsts[i] = lead(shares[i], firsts[i], n);
+        shares[i] += 1;
     }
-    n
 }
 
-// Of the first `count` ids those that are picked, each once.
+// The id at place i of a list, where its user is found, counts and is not taken yet: it is kept, its connection beside it.
+fn take_one(
+    names: &[u16; 64],
+    homes: &[u8; 64],
+    k: Pick,
+    list: &[u16],
+    i: usize,
+    kept: &mut [u16],
+    spots: &mut [u8],
+    shares: &mut [u8],
+    firsts: &mut [u8],
+    t: Taken,
+) -> Taken
+    requires { ⌜ (i < length (now list)) × (i < 64) × (t .count ≤ i) × (64 ≤ length (now kept)) × (64 ≤ length (now spots)) × (length (now shares) ≡ 16) × (length (now firsts) ≡ 16)
+        × Takes (users-of (now names) (now homes)) k (take i (now list)) (take (t .count) (now kept)) (now spots) (now shares) (now firsts) (t .seats) ⌝ }
+    ensures { λ r. ⌜ Takes (users-of (now (names .entry)) (now (homes .entry))) k (take (i + 1) (now (list .entry))) (take (r .count) (now (kept .exit))) (now (spots .exit)) (now (shares .exit)) (now (firsts .exit)) (r .seats)
+        × (r .count ≤ i + 1) ⌝ }
+{
+    let at = &homes[..];
+    let x = list[i];
+    let j = places::columns::find(names, x);
+    if j < at.len() {
+        let seat = j as u8;
+        if counts(k, seat) {
+            if !places::masks::has(t.seats, seat) {
+                let n = t.count;
+                kept[n] = x;
+                spots[n] = at[j];
+                add_share(shares, firsts, at[j], n as u8);
+                return Taken {
+                    count: n + 1,
+                    seats: places::masks::with_seat(t.seats, seat),
+                };
+            }
+        }
+    }
+    t
+}
+
+// Of the first `count` ids those that are picked, each once: each id is looked for once.
 fn chosen(
     names: &[u16; 64],
     homes: &[u8; 64],
@@ -206,15 +234,23 @@ fn chosen(
     listed: &[u16; 64],
     count: usize,
     kept: &mut [u16],
-) -> usize
-    requires { ⌜ 64 ≤ length (now kept) ⌝ }
-    ensures { λ r. ⌜ (take r (now (kept .exit)) ≡ sieved (users-of (now (names .entry)) (now (homes .entry))) k (once (take count (now (listed .entry))))) × (r ≤ 64) ⌝ }
+    spots: &mut [u8],
+    shares: &mut [u8],
+    firsts: &mut [u8],
+) -> Taken
+    requires { ⌜ (64 ≤ length (now kept)) × (64 ≤ length (now spots)) × (now shares ≡ replicate 16 0) × (now firsts ≡ replicate 16 0) ⌝ }
+    ensures { λ r. ⌜ Takes (users-of (now (names .entry)) (now (homes .entry))) k (take count (now (listed .entry))) (take (r .count) (now (kept .exit))) (now (spots .exit)) (now (shares .exit)) (now (firsts .exit)) (r .seats)
+        × (r .count ≤ 64) ⌝ }
 {
     let all = &listed[..];
-    let n = answers::at_most(count, 64);
-    let mut first = [0u16; 64];
-    let m = sieve(names, homes, Pick::New, &all[..n], &mut first);
-    sieve(names, homes, k, &first[..m], kept)
+    let m = answers::at_most(count, 64);
+    let mut t = Taken { count: 0, seats: 0 };
+    let mut i = 0;
+    while i < m {
+        t = take_one(names, homes, k, all, i, kept, spots, shares, firsts, t);
+        i += 1;
+    }
+    t
 }
 
 // What a list's users are told: CAin of user and channel, CEin of a channel.
@@ -223,112 +259,261 @@ enum Say {
     Expels(u16),
 }
 
-fn compose(m: &mut [u8], s: Say, ids: &[u16]) -> usize
-    ensures { λ r. ⌜ Puts (now (m .entry)) 0 (listing (now (ids .entry)) (wire (says s (now (ids .entry))))) (now (m .exit)) r ⌝ }
+// What stands before the users in the record for connection q.
+fn put_start(out: &mut [u8], at: usize, s: Say, q: u8, count: u8) -> usize
+    requires { ⌜ at ≤ 65535 ⌝ }
+    ensures { λ r. ⌜ Begins (now (out .entry)) at s q count (now (out .exit)) r × (r ≤ at + 10) ⌝ }
 {
     match s {
-        Say::Admits(u, c) => records::compose::admit_indication(m, u, c, ids),
-        Say::Expels(c) => records::compose::expel_indication(m, c, ids),
+        Say::Admits(u, c) => {
+            let head = records::compose::admit_start(q, u, c, count);
+            records::put_all(out, at, &head)
+        }
+        Say::Expels(c) => {
+            let head = records::compose::expel_start(q, c, count);
+            records::put_all(out, at, &head)
+        }
     }
 }
 
-// The connection of user u; 16 where u is not attached.
-fn home_of(names: &[u16; 64], homes: &[u8; 64], u: u16) -> u8
-    ensures { λ r. ⌜ r ≡ home (users-of (now (names .entry)) (now (homes .entry))) u ⌝ }
+// User u on two octets, where it counts.
+fn put_one(out: &mut [u8], at: usize, counts: bool, u: u16) -> usize
+    requires { ⌜ at ≤ 65535 ⌝ }
+    ensures { λ r. ⌜ Puts (now (out .entry)) at (each-two 1001 (if counts then u ∷ [] else [])) (now (out .exit)) r × (r ≤ at + 2) ⌝ }
 {
-    let at = &homes[..];
-    let i = places::columns::find(names, u);
-    if i < at.len() {
-        return at[i];
+    if counts {
+        let id = [u];
+        return records::put_ids(out, at, 1001, &id);
     }
-    16
+    at
 }
 
-// The connection of each listed user, looked up once for all that is said of them.
-fn locate(names: &[u16; 64], homes: &[u8; 64], list: &[u16], spots: &mut [u8])
-    requires { ⌜ length (now list) ≤ length (now spots) ⌝ }
-    ensures { λ _. ⌜ Located (users-of (now (names .entry)) (now (homes .entry))) (now (list .entry)) (now (spots .exit)) ⌝ }
+// The users of connection q in a list, in their order: `count` of them, the first of whom stands at `first`.
+fn put_own(
+    out: &mut [u8],
+    from: usize,
+    spots: &[u8],
+    list: &[u16],
+    q: u8,
+    first: usize,
+    count: u8,
+) -> usize
+    requires { ⌜ (from ≤ 60000) × (length (now list) ≤ 64) × (length (now list) ≤ length (now spots)) × (q < 16) ⌝ }
+    ensures { λ r. ⌜ ((us : Users) → Located us (now (list .entry)) (now (spots .entry)) → owned-by us q (take first (now (list .entry))) ≡ [] → length (owned-by us q (now (list .entry))) ≡ count
+        → Puts (now (out .entry)) from (each-two 1001 (owned-by us q (now (list .entry)))) (now (out .exit)) r) × (r ≤ from + 128) ⌝ }
 {
-    let mut i = 0;
+    let end = from + count as usize * 2;
+    let mut at = from;
+    let mut i = first;
     while i < list.len() {
-        spots[i] = home_of(names, homes, list[i]);
-        i += 1;
-    }
-}
-
-// Those of a list that are on connection q, in their order; how many they are.
-fn own_of(spots: &[u8], list: &[u16], q: u8, kept: &mut [u16]) -> usize
-    requires { ⌜ (length (now list) ≤ length (now kept)) × (length (now list) ≤ length (now spots)) × (q < 16) ⌝ }
-    ensures { λ r. ⌜ ((us : Users) → Located us (now (list .entry)) (now (spots .entry)) → take r (now (kept .exit)) ≡ owned-by us q (now (list .entry))) × (r ≤ length (now (list .entry))) ⌝ }
-{
-    let mut n = 0;
-    let mut i = 0;
-    while i < list.len() {
+        if at == end {
+            return at;
+        }
         let here = spots[i] == q;
-        n = keep_one(kept, n, here, list[i]);
+        at = put_one(out, at, here, list[i]);
         i += 1;
     }
-    n
+    at
 }
 
 // What connection q hears: its own ids, if it has any.
-fn tell_one(out: &mut [u8], at: usize, spots: &[u8], s: Say, list: &[u16], q: u8) -> usize
-    requires { ⌜ (at ≤ 65535) × (length (now list) ≤ 64) × (length (now list) ≤ length (now spots)) × (q < 16) ⌝ }
-    ensures { λ r. ⌜ ((us : Users) → Located us (now (list .entry)) (now (spots .entry)) → Puts (now (out .entry)) at (recordsOf (own-to us (now (list .entry)) (says s) q)) (now (out .exit)) r) × (r ≤ at + 138) ⌝ }
+fn tell_one(
+    out: &mut [u8],
+    at: usize,
+    spots: &[u8],
+    shares: &[u8],
+    firsts: &[u8],
+    s: Say,
+    list: &[u16],
+    q: u8,
+) -> usize
+    requires { ⌜ (at ≤ 50000) × (length (now list) ≤ 64) × (length (now list) ≤ length (now spots)) × (16 ≤ length (now shares)) × (16 ≤ length (now firsts)) × (q < 16) ⌝ }
+    ensures { λ r. ⌜ ((us : Users) → Housed us (now (list .entry)) (now (spots .entry)) (now (shares .entry)) (now (firsts .entry)) → Puts (now (out .entry)) at (recordsOf (own-to us (now (list .entry)) (says s) q)) (now (out .exit)) r) × (r ≤ at + 138) ⌝ }
 {
-    let mut mine = [0u16; 64];
-    let n = own_of(spots, list, q, &mut mine);
+    let i = q as usize;
+    let n = shares[i];
     if n == 0 {
         return at;
     }
-    let mut m = [0u8; 134];
-    let k = compose(&mut m, s, &mine[..n]);
-    records::send(out, at, q, &m[..k])
+    let from = put_start(out, at, s, q, n);
+    put_own(out, from, spots, list, q, firsts[i] as usize, n)
 }
 
-fn tell_all(out: &mut [u8], spots: &[u8], s: Say, list: &[u16]) -> usize
-    requires { ⌜ (length (now list) ≤ 64) × (length (now list) ≤ length (now spots)) ⌝ }
-    ensures { λ r. ⌜ ((us : Users) → Located us (now (list .entry)) (now (spots .entry)) → Puts (now (out .entry)) 0 (recordsOf (own us (now (list .entry)) (says s))) (now (out .exit)) r) × (r ≤ 2208) ⌝ }
+fn tell_all(
+    out: &mut [u8],
+    spots: &[u8],
+    shares: &[u8],
+    firsts: &[u8],
+    s: Say,
+    list: &[u16],
+) -> usize
+    requires { ⌜ (length (now list) ≤ 64) × (length (now list) ≤ length (now spots)) × (16 ≤ length (now shares)) × (16 ≤ length (now firsts)) ⌝ }
+    ensures { λ r. ⌜ ((us : Users) → Housed us (now (list .entry)) (now (spots .entry)) (now (shares .entry)) (now (firsts .entry)) → Puts (now (out .entry)) 0 (recordsOf (own us (now (list .entry)) (says s))) (now (out .exit)) r) × (r ≤ 2208) ⌝ }
 {
     let mut at = 0;
     let mut q: u8 = 0;
     while q < 16 {
-        at = tell_one(out, at, spots, s, list, q);
+        at = tell_one(out, at, spots, shares, firsts, s, list, q);
         q += 1;
     }
     at
 }
 
 // There is room for all of it. Only a short room is tried: no more than 2,208 octets are ever said.
-fn fits(room: usize, spots: &[u8], s: Say, list: &[u16]) -> bool
-    requires { ⌜ (length (now list) ≤ 64) × (length (now list) ≤ length (now spots)) ⌝ }
-    ensures { λ r. ⌜ ((us : Users) → Located us (now (list .entry)) (now (spots .entry)) → (r ≡ true → length (recordsOf (own us (now (list .entry)) (says s))) ≤ room) × (r ≡ false → room < length (recordsOf (own us (now (list .entry)) (says s))))) ⌝ }
+fn fits(room: usize, spots: &[u8], shares: &[u8], firsts: &[u8], s: Say, list: &[u16]) -> bool
+    requires { ⌜ (length (now list) ≤ 64) × (length (now list) ≤ length (now spots)) × (16 ≤ length (now shares)) × (16 ≤ length (now firsts)) ⌝ }
+    ensures { λ r. ⌜ ((us : Users) → Housed us (now (list .entry)) (now (spots .entry)) (now (shares .entry)) (now (firsts .entry)) → (r ≡ true → length (recordsOf (own us (now (list .entry)) (says s))) ≤ room) × (r ≡ false → room < length (recordsOf (own us (now (list .entry)) (says s))))) ⌝ }
 {
     if room < 2208 {
-        let total = tell_all(&mut [], spots, s, list);
+        let total = tell_all(&mut [], spots, shares, firsts, s, list);
         return total <= room;
     }
     true
 }
 
 // The same, where there is room for all of it.
-fn tell_own(out: &mut [u8], names: &[u16; 64], homes: &[u8; 64], s: Say, list: &[u16]) -> Answer
-    requires { ⌜ length (now list) ≤ 64 ⌝ }
-    ensures { λ r. ⌜ answered {A = Unit {0}} r tt (now (out .exit)) ≡ sends 0 tt tt (own (users-of (now (names .entry)) (now (homes .entry))) (now (list .entry)) (says s)) (now (out .entry)) ⌝ }
+fn tell_own(
+    out: &mut [u8],
+    spots: &[u8],
+    shares: &[u8],
+    firsts: &[u8],
+    s: Say,
+    list: &[u16],
+) -> Answer
+    requires { ⌜ (length (now list) ≤ 64) × (length (now list) ≤ length (now spots)) × (16 ≤ length (now shares)) × (16 ≤ length (now firsts)) ⌝ }
+    ensures { λ r. ⌜ ((us : Users) → Housed us (now (list .entry)) (now (spots .entry)) (now (shares .entry)) (now (firsts .entry)) → answered {A = Unit {0}} r tt (now (out .exit)) ≡ sends 0 tt tt (own us (now (list .entry)) (says s)) (now (out .entry))) ⌝ }
 {
-    let mut spots = [16u8; 64];
-    locate(names, homes, list, &mut spots);
-    if !fits(out.len(), &spots, s, list) {
+    if !fits(out.len(), spots, shares, firsts, s, list) {
         return Answer {
             reply: Reply::NoRoom,
             sent: 0,
         };
     }
-    let total = tell_all(out, &spots, s, list);
+    let total = tell_all(out, spots, shares, firsts, s, list);
     Answer {
         reply: Reply::Done,
         sent: total,
     }
+}
+
+// What a list's users were told, and their places.
+struct Told {
+    answer: Answer,
+    seats: u64,
+}
+
+// Those picked of the first `count` ids are told, each connection its own.
+fn tell_chosen(
+    out: &mut [u8],
+    names: &[u16; 64],
+    homes: &[u8; 64],
+    k: Pick,
+    s: Say,
+    listed: &[u16; 64],
+    count: usize,
+) -> Told
+    ensures { λ r. ⌜ (answered {A = Unit {0}} (r .answer) tt (now (out .exit)) ≡ settle tt (tells (users-of (now (names .entry)) (now (homes .entry))) s (sieved (users-of (now (names .entry)) (now (homes .entry))) k (take count (now (listed .entry)))) tt) (now (out .entry)))
+        × (r .seats ≡ placesOf (users-of (now (names .entry)) (now (homes .entry))) (sieved (users-of (now (names .entry)) (now (homes .entry))) k (take count (now (listed .entry))))) ⌝ }
+{
+    let mut kept = [0u16; 64];
+    let mut spots = [16u8; 64];
+    let mut shares = [0u8; 16];
+    let mut firsts = [0u8; 16];
+    let t = chosen(
+        names,
+        homes,
+        k,
+        listed,
+        count,
+        &mut kept,
+        &mut spots,
+        &mut shares,
+        &mut firsts,
+    );
+    let n = t.count;
+    if n == 0 {
+        return Told {
+            answer: answers::ignored(),
+            seats: t.seats,
+        };
+    }
+    let a = tell_own(out, &spots, &shares, &firsts, s, &kept[..n]);
+    Told {
+        answer: a,
+        seats: t.seats,
+    }
+}
+
+// Whose ids count: who is admitted must be attached, who is expelled must be admitted.
+fn pick_for(s: Say, guests: u64) -> Pick
+    ensures { λ r. ⌜ r ≡ picks s guests ⌝ }
+{
+    match s {
+        Say::Admits(_, _) => Pick::Attached,
+        Say::Expels(_) => Pick::Admitted(guests),
+    }
+}
+
+// The channel once the users at these places are admitted or expelled.
+fn with_change(names: &[u16; 64], homes: &[u8; 64], s: Say, ch: Channel, seats: u64) -> Channel
+    ensures { λ r. ⌜ r ≡ changed (users-of (now (names .entry)) (now (homes .entry))) s ch seats ⌝ }
+{
+    match s {
+        Say::Admits(_, _) => Channel {
+            role: ch.role,
+            chair: ch.chair,
+            guests: places::masks::all_seats(ch.guests, seats),
+            marks: ch.marks,
+        },
+        Say::Expels(_) => {
+            let stay = places::masks::other_seats(ch.guests, seats);
+            let mask = homes_of(names, homes, ch.chair, stay);
+            Channel {
+                role: ch.role,
+                chair: ch.chair,
+                guests: stay,
+                marks: places::masks::common_links(ch.marks, mask),
+            }
+        }
+    }
+}
+
+// A request was done.
+fn done(a: Answer) -> bool
+    ensures { λ r. ⌜ r ≡ eqb (replyNumber (a .reply)) 0 ⌝ }
+{
+    let reply = a.reply;
+    domain::numbers::reply_number(reply) == 0
+}
+
+// The first `count` ids are admitted to the private channel at place j, or expelled.
+fn change(
+    names: &[u16; 64],
+    homes: &[u8; 64],
+    roles: &mut [u8; 128],
+    chairs: &mut [u8; 128],
+    guests: &mut [u64; 128],
+    marks: &mut [u16; 128],
+    j: usize,
+    s: Say,
+    listed: &[u16; 64],
+    count: usize,
+    out: &mut [u8],
+) -> Answer
+    ensures { λ r. ⌜ ((ids : List ℕ) → answered r (channels-of ids (now (roles .exit)) (now (chairs .exit)) (now (guests .exit)) (now (marks .exit))) (now (out .exit))
+        ≡ settle (channels-of ids (now (roles .entry)) (now (chairs .entry)) (now (guests .entry)) (now (marks .entry)))
+        (changes (users-of (now (names .entry)) (now (homes .entry))) (channels-of ids (now (roles .entry)) (now (chairs .entry)) (now (guests .entry)) (now (marks .entry))) j s (take count (now (listed .entry))))
+        (now (out .entry))) ⌝ }
+{
+    let ch = tables::channels::channel_at(roles, chairs, guests, marks, j);
+    let k = pick_for(s, ch.guests);
+    let told = tell_chosen(out, names, homes, k, s, listed, count);
+    let a = told.answer;
+    if done(a) {
+        let now = with_change(names, homes, s, ch, told.seats);
+        tables::channels::set_channel(roles, chairs, guests, marks, j, now);
+    }
+    a
 }
 
 // CArq by u on p for channel c: the first `count` of the ids.
@@ -357,25 +542,20 @@ pub fn admit(
     if 128 <= j {
         return answers::ignored();
     }
-    let mut kept = [0u16; 64];
-    let n = chosen(names, homes, Pick::Attached, listed, count, &mut kept);
-    if n == 0 {
-        return answers::ignored();
-    }
-    let a = tell_own(out, names, homes, Say::Admits(u, c), &kept[..n]);
-    if answers::refused(a) {
-        return a;
-    }
-    let ch = tables::channels::channel_at(roles, chairs, guests, marks, j);
-    let come = tables::users::places_of(names, &kept[..n]);
-    let now = Channel {
-        role: ch.role,
-        chair: ch.chair,
-        guests: places::masks::all_seats(ch.guests, come),
-        marks: ch.marks,
-    };
-    tables::channels::set_channel(roles, chairs, guests, marks, j, now);
-    a
+    let s = Say::Admits(u, c);
+    change(
+        names,
+        homes,
+        roles,
+        chairs,
+        guests,
+        marks,
+        j,
+        s,
+        listed,
+        count,
+        out,
+    )
 }
 
 // CErq by u on p for channel c: the first `count` of the ids.
@@ -404,31 +584,18 @@ pub fn expel(
     if 128 <= j {
         return answers::ignored();
     }
-    let ch = tables::channels::channel_at(roles, chairs, guests, marks, j);
-    let mut kept = [0u16; 64];
-    let n = chosen(
+    let s = Say::Expels(c);
+    change(
         names,
         homes,
-        Pick::Admitted(ch.guests),
+        roles,
+        chairs,
+        guests,
+        marks,
+        j,
+        s,
         listed,
         count,
-        &mut kept,
-    );
-    if n == 0 {
-        return answers::ignored();
-    }
-    let a = tell_own(out, names, homes, Say::Expels(c), &kept[..n]);
-    if answers::refused(a) {
-        return a;
-    }
-    let stay = places::masks::other_seats(ch.guests, tables::users::places_of(names, &kept[..n]));
-    let mask = homes_of(names, homes, ch.chair, stay);
-    let now = Channel {
-        role: ch.role,
-        chair: ch.chair,
-        guests: stay,
-        marks: places::masks::common_links(ch.marks, mask),
-    };
-    tables::channels::set_channel(roles, chairs, guests, marks, j, now);
-    a
+        out,
+    )
 }

@@ -13,12 +13,12 @@ use Rattle.messages.specs.Messages.{Row, plain, optional, entry, row, result, u
 use Rattle.messages.specs.Limits.{list-limit}
 use Rattle.messages.specs.Codec.{octetsOfMsg}
 use Rattle.messages.specs.Named.{Message, fields, msg, maybe, RJum, AUcf, DUin, CJcf, CCcf, CDin, CAin, CEin, TGcf, TIcf, TVcf, TRcf, TTcf, TVin, TPin}
-use Rattle.records.specs.Records.{two, wire}
+use Rattle.records.specs.Records.{two, wire, framed}
 use Rattle.records.specs.Out.{Puts, each-two, listing}
 use Rattle.records.specs.Confirms.{confirm, number}
 use Rattle.records.specs.declared.compose.Confirm.{Confirm}
 use Rattle.records.specs.declared.compose.Confirm.the-variants.{Grab, Inhibit, Give, Release}
-use Rattle.records.proofs.Laying.{put-none}
+use Rattle.records.proofs.Laying.{put-none, ids-length}
 
 octets-two : (n : ℕ) → octetsOf 2 n ≡ two n
 octets-two n = rw (div-one (n % 256)) refl
@@ -113,6 +113,18 @@ module _ (ids : List ℕ) (h : length ids < 128) where
   pub wire-CEin : (k : ℕ) → wire (CEin k ids) ≡ 96 ∷ two (k - 1001) ++ length ids ∷ each-two 1001 ids
   unfolding wire fields row entry octetsOfMsg
   wire-CEin k = rw (lt-ltb (length ids) 128 h, ids-written 1001 ids, div-one ((k - 1001) % 256)) refl
+
+-- the record of such a message for connection q: what stands before its n users, and they
+module _ (ids : List ℕ) (n : ℕ) (e : length ids ≡ n) (h : length ids ≤ list-limit) (q : ℕ) where
+  sized : (m : List ℕ) (s : ℕ) → length m + 2 ≡ s → framed m q ≡ two s ++ 1 ∷ q ∷ m
+  unfolding framed
+  sized m s l = ap (λ (k : ℕ). two k ++ 1 ∷ q ∷ m) l
+
+  pub start-CAin : (u k : ℕ) → framed (wire (CAin u k ids)) q ≡ two (n * 2 + 8) ++ 1 ∷ q ∷ 88 ∷ two (u - 1001) ++ two (k - 1001) ++ n ∷ each-two 1001 ids
+  start-CAin u k = rw (wire-CAin ids (omega arith) u k) (sized _ (n * 2 + 8) (omega (arith, ids-length 1001 ids)) ∙ rw e)
+
+  pub start-CEin : (k : ℕ) → framed (wire (CEin k ids)) q ≡ two (n * 2 + 6) ++ 1 ∷ q ∷ 96 ∷ two (k - 1001) ++ n ∷ each-two 1001 ids
+  start-CEin k = rw (wire-CEin ids (omega arith) k) (sized _ (n * 2 + 6) (omega (arith, ids-length 1001 ids)) ∙ rw e)
 
 pub wire-RJum : (d : ℕ) (os : List ℕ) → d < 256 → length os < 128 → wire (RJum d os) ≡ (36 + d / 4) ∷ (d % 4 * 64) ∷ length os ∷ os
 unfolding wire fields row entry octetsOfMsg

@@ -1,12 +1,12 @@
 // The messages that a top provider sends, as their octets: by value where the length is fixed, into a room where there is a list.
 ghost use mathlib.Core.Path.{_≡_};
-ghost use mathlib.Core.List.{_∷_, _++_};
+ghost use mathlib.Core.List.{List, _∷_, _++_};
 ghost use mathlib.Core.Option.{none, some};
-ghost use Prim.Native.Nat.{_-_, _/_, _%_, _≤_};
+ghost use Prim.Native.Nat.{ℕ, _-_, _/_, _%_, _≤_};
 ghost use lib.ListN.{length, take};
 ghost use Rattle.messages.specs.Limits.{list-limit};
 ghost use Rattle.messages.specs.Named.{successful, AUcf, CJcf, CCcf, CDin, TTcf, TVin, TPin, DUin, CAin, CEin, RJum};
-ghost use Rattle.records.specs.Records.{wire};
+ghost use Rattle.records.specs.Records.{wire, framed};
 ghost use Rattle.records.specs.Out.{Puts, each-two, listing};
 ghost use Rattle.records.specs.Confirms.{confirm, number};
 use messages::LIST_LIMIT;
@@ -190,30 +190,39 @@ pub fn detach_indication(s: &mut [u8], reason: u8, ids: &[u16]) -> usize
     0
 }
 
-pub fn admit_indication(s: &mut [u8], manager: u16, channel: u16, ids: &[u16]) -> usize
-    ensures { λ r. ⌜ Puts (now (s .entry)) 0 (listing (now (ids .entry)) (wire (CAin manager channel (now (ids .entry))))) (now (s .exit)) r ⌝ }
+// What stands before the users in the record of a CAin, or a CEin, of so many users to connection q.
+pub fn admit_start(q: u8, manager: u16, channel: u16, count: u8) -> [u8; 10]
+    ensures { λ r. ⌜ ((ids : List ℕ) → length ids ≡ count → length ids ≤ list-limit → framed (wire (CAin manager channel ids)) q ≡ r ++ each-two 1001 ids) ⌝ }
 {
-    if ids.len() <= LIST_LIMIT {
-        let head = [
-            88,
-            upper(manager, 1001),
-            lower(manager, 1001),
-            upper(channel, 1001),
-            lower(channel, 1001),
-        ];
-        return lay_list(s, &head, ids);
-    }
-    0
+    let n = count as u16 * 2 + 8;
+    [
+        (n / 256) as u8,
+        (n % 256) as u8,
+        1,
+        q,
+        88,
+        upper(manager, 1001),
+        lower(manager, 1001),
+        upper(channel, 1001),
+        lower(channel, 1001),
+        count,
+    ]
 }
 
-pub fn expel_indication(s: &mut [u8], channel: u16, ids: &[u16]) -> usize
-    ensures { λ r. ⌜ Puts (now (s .entry)) 0 (listing (now (ids .entry)) (wire (CEin channel (now (ids .entry))))) (now (s .exit)) r ⌝ }
+pub fn expel_start(q: u8, channel: u16, count: u8) -> [u8; 8]
+    ensures { λ r. ⌜ ((ids : List ℕ) → length ids ≡ count → length ids ≤ list-limit → framed (wire (CEin channel ids)) q ≡ r ++ each-two 1001 ids) ⌝ }
 {
-    if ids.len() <= LIST_LIMIT {
-        let head = [96, upper(channel, 1001), lower(channel, 1001)];
-        return lay_list(s, &head, ids);
-    }
-    0
+    let n = count as u16 * 2 + 6;
+    [
+        (n / 256) as u8,
+        (n % 256) as u8,
+        1,
+        q,
+        96,
+        upper(channel, 1001),
+        lower(channel, 1001),
+        count,
+    ]
 }
 
 // RJum carries the message's first 16 octets, or all if fewer.

@@ -1,52 +1,77 @@
-use Rattle.channels.proofs.Parting.{least-le, take-count, take-least}
-use native.Mathlib.Nat.{le-trans}
-use Rattle.private.proofs.Sieving.{chosen-is}
-use mathlib.Core.Path.{refl}
-use Rattle.private.proofs.Hearing.{take-within, picked-within}
+-- Those picked of the ids passed are taken.
+use Prim.Native.Nat.{_≤_, _-_}
+use mathlib.Core.Path.{_≡_, refl, _∙_}
+use native.Mathlib.Omega.{arith}
+use lib.ListN.{length, take}
 use borrow.Author.Needs.{needs}
+use Rattle.domain.specs.Tables.{users-of}
+use Rattle.channels.proofs.Parting.{least-le, take-least}
+use Rattle.private.specs.Sieve.{Takes}
+use Rattle.private.proofs.Sieving.{takes-none}
 use Rattle.private.proofs.chosen.Statement.{statement}
 use Rattle.private.proofs.chosen.Tie as tie
 
-at-most-requires : tie.Need-at-most-requires
-at-most-requires c κs = tt
+abbrev Inv-loop : tie.InvT-loop
+Inv-loop names homes k listed count kept₀ spots₀ shares₀ firsts₀ all m t₀ i₀ kept spots shares firsts t i =
+    (i ≤ m) × (m ≤ 64) × (t .count ≤ i) × (length listed ≡ 64) × (length kept ≡ length kept₀) × (length spots ≡ length spots₀) × (length shares ≡ length shares₀) × (length firsts ≡ length firsts₀) × (length shares₀ ≡ 16) × (length firsts₀ ≡ 16)
+    × Takes (users-of names homes) k (take i listed) (take (t .count) kept) spots shares firsts (t .seats)
 
-slice-aggregate-sieve : tie.Need-slice-aggregate-sieve
-slice-aggregate-sieve c = take-count _ 64 _ (search needs) (least-le _ _ _ (c .before .at-most .ensures))
+abbrev μ-loop : tie.MeasureT-loop
+μ-loop names homes k listed count kept₀ spots₀ shares₀ firsts₀ all m t₀ i₀ kept spots shares firsts t i = m - i
 
-slice-aggregate-sieve-2 : tie.Need-slice-aggregate-sieve-2
-slice-aggregate-sieve-2 c = search needs
+at-most-requires : tie.Need-at-most-requires Inv-loop μ-loop
+at-most-requires c κs = search needs
 
-sieve-requires : tie.Need-sieve-requires
-sieve-requires c κs = take-within _ _ 64 (least-le _ _ _ (c .before .before .at-most .ensures))
+loop-holds : tie.Need-loop-holds Inv-loop μ-loop
+loop-holds c = let h = c .before .before .before .before .before .before .pre in
+    (search needs, least-le _ _ _ (c .at-most .ensures), search needs, search needs, refl, refl, refl, refl, rw (h .2) refl, rw (h .3) refl, takes-none _ _ _ _ _ (h .2) (h .3))
 
-array-share-prefix-first : tie.Need-array-share-prefix-first
-array-share-prefix-first c = rw (c .before .sieve .kept .1 .1 .1 .1 .0) (picked-within _ 64 _ _ (least-le _ _ _ (c .before .before .before .before .at-most .ensures)) (c .before .sieve .ensures .1))
+take-one-requires : tie.Need-take-one-requires Inv-loop μ-loop
+take-one-requires c κs = let b = c .before .before .before .before .before .loop in
+    (omega arith, omega arith, search needs, omega arith, omega arith, search needs, search needs, b .inv .10)
 
-slice-aggregate-sieve-3 : tie.Need-slice-aggregate-sieve-3
-slice-aggregate-sieve-3 c = take-count _ _ _ refl (rw (c .before .before .sieve .kept .1 .1 .1 .1 .0) (picked-within _ 64 _ _ (least-le _ _ _ (c .before .before .before .before .before .at-most .ensures)) (c .before .before .sieve .ensures .1)))
+add-i : tie.Need-add-i Inv-loop μ-loop
+add-i c = search needs
 
-sieve-requires-2 : tie.Need-sieve-requires-2
-sieve-requires-2 c κs = take-within _ _ _ (le-trans (picked-within _ 64 _ _ (least-le _ _ _ (c .before .before .before .before .before .before .at-most .ensures)) (c .before .before .before .sieve .ensures .1)) (c .before .before .before .before .before .before .before .before .before .pre))
+loop-less : tie.Need-loop-less Inv-loop μ-loop
+loop-less c = search needs
 
-same-length : tie.Need-same-length
+loop-again : tie.Need-loop-again Inv-loop μ-loop
+loop-again c = let r = c .before .before .before .before .before .before .before .before .take-one in
+    (search needs, search needs, omega (arith, r .ensures .1), search needs, search needs, search needs, search needs, search needs, search needs, search needs, r .ensures .0)
+
+same-length : tie.Need-same-length Inv-loop μ-loop
 same-length c = search needs
 
-returns : tie.Need-returns
-returns c = (
-  chosen-is _ _ _ _ _ _ (c .before .before .sieve2 .ensures .0) (c .before .before .before .before .before .before .sieve .ensures .0) (take-least _ _ 64 _ (search needs) (c .before .before .before .before .before .before .before .before .before .at-most .ensures)),
-  picked-within _ 64 _ _ (picked-within _ 64 _ _ (least-le _ _ _ (c .before .before .before .before .before .before .before .before .before .at-most .ensures)) (c .before .before .before .before .before .before .sieve .ensures .1)) (c .before .before .sieve2 .ensures .1),
-)
+same-length-2 : tie.Need-same-length-2 Inv-loop μ-loop
+same-length-2 c = search needs
+
+same-length-3 : tie.Need-same-length-3 Inv-loop μ-loop
+same-length-3 c = search needs
+
+same-length-4 : tie.Need-same-length-4 Inv-loop μ-loop
+same-length-4 c = search needs
+
+returns : tie.Need-returns Inv-loop μ-loop
+returns c = let a = c .before .before .before .before .before .before .before .before .args in
+    let b = c .before .loop in
+    let e : b .i ≡ c .before .before .at-most .result = omega arith in
+    (rw (← take-least (a .listed .now) (a .count) 64 (b .i) (search needs) (e ∙ c .before .before .at-most .ensures)) (b .inv .10), omega arith)
 
 pub chosen-spec : {M : Type 1} → statement M
 chosen-spec =
     tie.close
     (tie.spec
+    Inv-loop
+    μ-loop
     at-most-requires
-    slice-aggregate-sieve
-    slice-aggregate-sieve-2
-    sieve-requires
-    array-share-prefix-first
-    slice-aggregate-sieve-3
-    sieve-requires-2
+    loop-holds
+    take-one-requires
+    add-i
+    loop-less
+    loop-again
     same-length
+    same-length-2
+    same-length-3
+    same-length-4
     returns)

@@ -5,22 +5,22 @@ use Prim.Native.Nat.{_-_, _*_, _≤_}
 use native.Mathlib.Omega.{arith}
 use Rattle.records.proofs.Laying.{Onward, onward-start, onward-step, onward-end}
 use Rattle.domain.specs.Tables.{Users}
-use Rattle.private.specs.Sieve.{Located, says}
+use Rattle.private.specs.Sieve.{Housed, says}
 use Rattle.private.proofs.Hearing.{owning, owning-all, owning-next, owning-end}
 use Rattle.private.proofs.tell_all.Statement.{statement}
 use Rattle.private.proofs.tell_all.Tie as tie
 
 abbrev Inv-loop : tie.InvT-loop
-Inv-loop out₀ spots s list at₀ q₀ out at q = (q ≤ 16) × (at ≤ q * 138) × (length out ≡ length out₀) × ((us : Users) → Located us list spots → Onward out₀ 0 (owning us list (says s) 0) out at (owning us list (says s) q))
+Inv-loop out₀ spots shares firsts s list at₀ q₀ out at q = (q ≤ 16) × (at ≤ q * 138) × (length out ≡ length out₀) × ((us : Users) → Housed us list spots shares firsts → Onward out₀ 0 (owning us list (says s) 0) out at (owning us list (says s) q))
 
 abbrev μ-loop : tie.MeasureT-loop
-μ-loop out₀ spots s list at₀ q₀ out at q = 16 - q
+μ-loop out₀ spots shares firsts s list at₀ q₀ out at q = 16 - q
 
 loop-holds : tie.Need-loop-holds Inv-loop μ-loop
 loop-holds c = (search needs, search needs, refl, λ us at. onward-start _ _ _)
 
 tell-one-requires : tie.Need-tell-one-requires Inv-loop μ-loop
-tell-one-requires c κs = (omega arith, search needs, search needs, search needs)
+tell-one-requires c κs = (omega arith, search needs, search needs, search needs, search needs, search needs)
 
 add-q : tie.Need-add-q Inv-loop μ-loop
 add-q c = search needs

@@ -1,65 +1,56 @@
+-- Nobody is there to hear, or the record is begun and its users laid behind it.
+use mathlib.Core.Path.{sym, _∙_}
 use native.Mathlib.Nat.{le-trans}
 use native.Mathlib.Omega.{arith}
-use mathlib.Core.Path.{refl}
-use Rattle.channels.proofs.Parting.{take-count}
-use Rattle.private.proofs.Hearing.{take-within, said-inside, said-count, said, said-short, own-silent, own-sent, sent-most}
+use Rattle.private.specs.Sieve.{owned-by}
+use Rattle.private.proofs.Sieving.{share-le}
+use Rattle.private.proofs.Hearing.{own-silent, own-heard}
 use borrow.Author.Needs.{needs}
 use Rattle.private.proofs.tell_one.Statement.{statement}
 use Rattle.private.proofs.tell_one.Tie as tie
 
-slice-aggregate-own-of : tie.Need-slice-aggregate-own-of
-slice-aggregate-own-of c = search needs
-
-own-of-requires : tie.Need-own-of-requires
-own-of-requires c κs = search needs
+shared-slice-read-n : tie.Need-shared-slice-read-n
+shared-slice-read-n c = search needs
 
 returns : tie.Need-returns
-returns c = (λ us at. own-silent us _ _ _ _ _ (c .before .before .own-of .ensures .0 us at) (c .if1 .taken) _ _, omega arith)
+returns c = let a = c .before .before .before .before .before .before .before .args in
+    (λ us h. own-silent us (a .list .now) _ (a .q) (sym (h .shared (a .q) (search needs)) ∙ c .if1 .taken) _ _, omega arith)
 
-slice-aggregate-compose : tie.Need-slice-aggregate-compose
-slice-aggregate-compose c = search needs
+put-start-requires : tie.Need-put-start-requires
+put-start-requires c κs = search needs
 
-array-share-prefix-mine : tie.Need-array-share-prefix-mine
-array-share-prefix-mine c = search needs
+shared-slice-read-put-own : tie.Need-shared-slice-read-put-own
+shared-slice-read-put-own c = search needs
 
-slice-aggregate-compose-2 : tie.Need-slice-aggregate-compose-2
-slice-aggregate-compose-2 c = take-count _ _ _ refl (rw (c .before .before .before .before .own-of .kept .1 .1 .1 .0) (le-trans (c .before .before .before .before .own-of .ensures .1) (c .before .before .before .before .before .before .before .before .before .pre .1)))
+cast-put-own : tie.Need-cast-put-own
+cast-put-own c = omega (arith, c .shared-slice-known6 .given (c .before .before .before .before .before .before .before .before .before .before .before .before .before .args .q))
 
-compose-requires : tie.Need-compose-requires
-compose-requires c κs = tt
-
-array-share-prefix-m : tie.Need-array-share-prefix-m
-array-share-prefix-m c = said-inside _ _ (take-within _ _ 64 (le-trans (c .before .before .before .before .before .before .before .own-of .ensures .1) (c .before .before .before .before .before .before .before .before .before .before .before .before .pre .1))) refl (c .before .before .compose .ensures)
-
-slice-aggregate-send : tie.Need-slice-aggregate-send
-slice-aggregate-send c = said-count _ _ (take-within _ _ 64 (le-trans (c .before .before .before .before .before .before .before .before .own-of .ensures .1) (c .before .before .before .before .before .before .before .before .before .before .before .before .before .pre .1))) refl (c .before .before .before .compose .ensures)
-
-send-requires : tie.Need-send-requires
-send-requires c κs = tt
+put-own-requires : tie.Need-put-own-requires
+put-own-requires c κs = search needs
 
 same-length : tie.Need-same-length
 same-length c = search needs
 
 returns-2 : tie.Need-returns-2
-returns-2 c = let short = take-within (c .before .before .before .before .before .before .before .before .before .before .before .own-of .result) (c .before .before .before .before .before .before .before .before .before .before .before .own-of .last .1 .1 .1 .0) 64 (le-trans (c .before .before .before .before .before .before .before .before .before .before .before .own-of .ensures .1) (c .before .before .before .before .before .before .before .before .before .before .before .before .before .before .before .before .pre .1)) in (
-  λ us at. own-sent us _ _ _ _ _ (c .before .before .before .before .before .before .before .before .before .before .before .own-of .ensures .0 us at) (c .before .before .before .before .before .before .before .before .before .if1 .left) (rw (c .before .before .before .before .before .before .before .before .before .before .before .own-of .kept .1 .1 .1 .0) (le-trans (c .before .before .before .before .before .before .before .before .before .before .before .own-of .ensures .1) (c .before .before .before .before .before .before .before .before .before .before .before .before .before .before .before .before .pre .1))) _
-      (said _ _ short refl (c .before .before .before .before .before .before .compose .ensures)) (said-short _ _ short refl (c .before .before .before .before .before .before .compose .ensures)) (c .before .before .before .before .before .before .before .before .before .before .before .before .before .before .before .before .pre .0) (c .before .before .send .ensures),
-  sent-most _ _ _ short _ (said _ _ short refl (c .before .before .before .before .before .before .compose .ensures)) (said-short _ _ short refl (c .before .before .before .before .before .before .compose .ensures)) (c .before .before .before .before .before .before .before .before .before .before .before .before .before .before .before .before .pre .0) (c .before .before .send .ensures),
-)
+returns-2 c = let a = c .before .before .before .before .before .before .before .before .before .before .before .before .before .before .before .before .args in
+    let start = c .before .before .before .before .before .before .before .put-start .ensures in
+    let own = c .before .before .put-own .ensures in (
+      λ us h.
+          let n = sym (h .shared (a .q) (search needs)) in
+          rw (own-heard us (a .list .now) _ (a .q) (λ z. c .before .before .before .before .before .before .before .before .before .if1 .left (sym n ∙ z)))
+          (start .0 (owned-by us (a .q) (a .list .now)) n (le-trans (share-le h (a .q) (search needs)) (search needs)) _ _ (own .0 us (h .located) (h .led (a .q) (search needs) .1) n)),
+      omega (arith, start .1, own .1),
+    )
 
 pub tell-one-spec : {M : Type 1} → statement M
 tell-one-spec =
     tie.close
     (tie.spec
-    slice-aggregate-own-of
-    own-of-requires
+    shared-slice-read-n
     returns
-    slice-aggregate-compose
-    array-share-prefix-mine
-    slice-aggregate-compose-2
-    compose-requires
-    array-share-prefix-m
-    slice-aggregate-send
-    send-requires
+    put-start-requires
+    shared-slice-read-put-own
+    cast-put-own
+    put-own-requires
     same-length
     returns-2)

@@ -1,9 +1,8 @@
--- The connections are looked up; then there is room, or there is not.
+-- There is room for all of it, or there is not.
 use mathlib.Core.Path.{refl, sym}
 use native.Mathlib.Nat.{zero-add}
 use native.Mathlib.Omega.{arith}
 use borrow.Author.Tests.{not-true, not-false}
-use Rattle.domain.specs.Tables.{users-of}
 use Rattle.domain.specs.Channels.{own}
 use Rattle.domain.proofs.Effects.{sends-full, sends-done}
 use Rattle.private.specs.Sieve.{says}
@@ -11,27 +10,12 @@ use borrow.Author.Needs.{needs}
 use Rattle.private.proofs.tell_own.Statement.{statement}
 use Rattle.private.proofs.tell_own.Tie as tie
 
-slice-aggregate-locate : tie.Need-slice-aggregate-locate
-slice-aggregate-locate c = search needs
-
-locate-requires : tie.Need-locate-requires
-locate-requires c κs = search needs
-
-slice-aggregate-fits : tie.Need-slice-aggregate-fits
-slice-aggregate-fits c = search needs
-
 fits-requires : tie.Need-fits-requires
 fits-requires c κs = search needs
 
 returns : tie.Need-returns
-returns c =
-    let a = c .before .before .before .before .before .before .before .before .args in
-    let us = users-of (a .names .now) (a .homes .now) in
-    let no = c .before .fits2 .ensures us (c .before .before .before .before .locate .ensures) .1 (not-true _ (c .if1 .taken)) in
-    sends-full 0 tt tt (own us (a .list .now) (says (a .s))) (a .out .now) _ (sym (zero-add _)) no
-
-slice-aggregate-tell-all : tie.Need-slice-aggregate-tell-all
-slice-aggregate-tell-all c = search needs
+returns c = let a = c .before .before .before .before .before .before .before .args in λ us h.
+    sends-full 0 tt tt (own us (a .list .now) (says (a .s))) (a .out .now) _ (sym (zero-add _)) (c .before .fits2 .ensures us h .1 (not-true _ (c .if1 .taken)))
 
 tell-all-requires : tie.Need-tell-all-requires
 tell-all-requires c κs = search needs
@@ -40,24 +24,10 @@ same-length : tie.Need-same-length
 same-length c = search needs
 
 returns-2 : tie.Need-returns-2
-returns-2 c =
-    let a = c .before .before .before .before .before .before .before .before .before .before .before .before .before .args in
-    let us = users-of (a .names .now) (a .homes .now) in
-    let at = c .before .before .before .before .before .before .before .before .before .locate .ensures in
-    let yes = c .before .before .before .before .before .before .fits2 .ensures us at .0 (not-false _ (c .before .before .before .before .before .if1 .left)) in
-    let put = c .before .before .tell-all .ensures .0 us at in
+returns-2 c = let a = c .before .before .before .before .before .before .before .before .before .before .before .args in λ us h.
+    let yes = c .before .before .before .before .before .fits2 .ensures us h .0 (not-false _ (c .before .before .before .before .if1 .left)) in
+    let put = c .before .before .tell-all .ensures .0 us h in
     sends-done 0 tt tt (own us (a .list .now) (says (a .s))) (a .out .now) _ (put .next) (omega (arith, put .next)) _ _ _ refl put
 
 pub tell-own-spec : {M : Type 1} → statement M
-tell-own-spec =
-    tie.close
-    (tie.spec
-    slice-aggregate-locate
-    locate-requires
-    slice-aggregate-fits
-    fits-requires
-    returns
-    slice-aggregate-tell-all
-    tell-all-requires
-    same-length
-    returns-2)
+tell-own-spec = tie.close (tie.spec fits-requires returns tell-all-requires same-length returns-2)
