@@ -483,7 +483,7 @@ fn done(a: Answer) -> bool
     ensures { λ r. ⌜ r ≡ eqb (replyNumber (a .reply)) 0 ⌝ }
 {
     let reply = a.reply;
-    domain::numbers::reply_number(reply) == 0
+    states::numbers::reply_number(reply) == 0
 }
 
 // The first `count` ids are admitted to the private channel at place j, or expelled.
