@@ -3,7 +3,6 @@ use mathlib.Core.Path.{_≡_, refl, sym, ap, _∙_}
 use mathlib.Core.Bool.{Bool, true, false}
 use mathlib.Core.List.{List, [], _∷_, _++_}
 use Prim.Native.Nat.{ℕ, _+_, _≤_, _<_}
-use native.Mathlib.Nat.{zero-add}
 use native.Mathlib.Omega.{arith}
 use borrow.Author.Tests.{lt-ltb, le-ltb}
 use lib.Dec.{eqb, ltb}
@@ -25,17 +24,17 @@ module _ (m : List ℕ) (s : Message) (e : m ≡ wire s) (l : length m ≤ 1024)
   pub many-sent : (mask : ℕ) → guarded 0 m (told mask m) ≡ records (tell mask s)
   many-sent mask = guarded-in 0 m (told mask m) (omega arith) l ∙ ap (told mask) e ∙ told-is mask s
 
--- a run of octets that tells their size, and one that writes them
-module _ (os out t : List ℕ) (n : ℕ) (size : Puts [] 0 os t n) where
+-- a run of octets of a known size
+module _ (os out : List ℕ) (n : ℕ) (size : n ≡ length os) where
   pub whole-full : length out < n → settled 9 0 tt out ≡ whole os out
   unfolding whole
-  whole-full h = rw (lt-ltb (length out) (length os) (omega (arith, size .next, zero-add (length os)))) refl
+  whole-full h = rw (lt-ltb (length out) (length os) (omega (arith, size))) refl
 
   pub whole-done : n ≤ length out → (o : List ℕ) (m : ℕ) → Puts out 0 os o m → settled 0 n tt o ≡ whole os out
   unfolding whole
   whole-done h o m p =
-      let z : length os ≤ length out = omega (arith, size .next, zero-add (length os)) in
-      rw (le-ltb (length out) (length os) z, put-fits p z, size .next, zero-add (length os)) refl
+      let z : length os ≤ length out = omega (arith, size) in
+      rw (le-ltb (length out) (length os) z, put-fits p z, size) refl
 
 pub whole-sends : (rs : List Sent) (os out : List ℕ) → os ≡ records rs → whole os out ≡ sends 0 tt tt rs out
 unfolding whole sends

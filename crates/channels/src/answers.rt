@@ -57,7 +57,7 @@ pub fn refused(a: Answer) -> bool
 pub fn confirm(out: &mut [u8], p: u8, m: &[u8]) -> Answer
     ensures { λ r. ⌜ answered {A = Unit {0}} r tt (now (out .exit)) ≡ whole (guarded 0 (now (m .entry)) (framed (now (m .entry)) p)) (now (out .entry)) ⌝ }
 {
-    let total = records::put_record(&mut [], p, m);
+    let total = records::record_size(m);
     if out.len() < total {
         return Answer {
             reply: Reply::NoRoom,
@@ -75,7 +75,7 @@ pub fn confirm(out: &mut [u8], p: u8, m: &[u8]) -> Answer
 pub fn tell(out: &mut [u8], mask: u16, m: &[u8]) -> Answer
     ensures { λ r. ⌜ answered {A = Unit {0}} r tt (now (out .exit)) ≡ whole (guarded 0 (now (m .entry)) (told mask (now (m .entry)))) (now (out .entry)) ⌝ }
 {
-    let total = records::tell(&mut [], 0, mask, m);
+    let total = records::told_size(mask, m);
     if out.len() < total {
         return Answer {
             reply: Reply::NoRoom,

@@ -1,2 +1,4 @@
 pub mod Asking
 pub mod Settling
+pub mod Deciding
+pub mod Doing

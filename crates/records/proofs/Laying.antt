@@ -42,15 +42,23 @@ pub guarded-in : (at : ℕ) (m os : List ℕ) → at ≤ 65535 → length m ≤ 
 unfolding guarded allowed
 guarded-in at m os h k = rw (le-leb at 65535 h, le-leb (length m) message-limit k) refl
 
--- a put that the guard's test lets through, and none
+-- what the guard's test lets through, and what not
+module _ (b : Bool) (at : ℕ) (m os : List ℕ) (e : b ≡ allowed at (length m)) where
+  pub guarded-all : b ≡ true → guarded at m os ≡ os
+  unfolding guarded
+  guarded-all h = rw (sym e ∙ h) refl
+
+  pub guarded-none : b ≡ false → guarded at m os ≡ []
+  unfolding guarded
+  guarded-none h = rw (sym e ∙ h) refl
+
+-- a put that it lets through, and none
 module _ (b : Bool) (s : List ℕ) (at : ℕ) (m os : List ℕ) (e : b ≡ allowed at (length m)) where
   pub put-allowed : {t : List ℕ} {n : ℕ} → b ≡ true → Puts s at os t n → Puts s at (guarded at m os) t n
-  unfolding guarded
-  put-allowed h p = rw (sym e ∙ h) p
+  put-allowed h p = rw (guarded-all b at m os e h) p
 
   pub put-refused : b ≡ false → Puts s at (guarded at m os) s at
-  unfolding guarded
-  put-refused h = rw (sym e ∙ h) (put-none s at)
+  put-refused h = rw (guarded-none b at m os e h) (put-none s at)
 
 pub allowed-parts : (b : Bool) (at count : ℕ) → b ≡ allowed at count → b ≡ true → (at ≤ 65535) × (count ≤ message-limit)
 unfolding allowed

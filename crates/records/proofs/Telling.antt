@@ -3,7 +3,7 @@ use mathlib.Core.Path.{_≡_, refl, sym, ap, ap₂, _∙_}
 use mathlib.Core.Bool.{Bool, true, false}
 use mathlib.Core.List.{List, [], _∷_, _++_, map, append-nil, append-assoc}
 use Prim.Native.Nat.{ℕ, zero, suc, _+_, _-_, _*_, _≤_, _<_}
-use native.Mathlib.Nat.{add-zero, add-suc, suc-add, zero-add, suc-mul}
+use native.Mathlib.Nat.{add-zero, add-suc, suc-add, zero-add, zero-mul, mul-zero, suc-mul}
 use native.Mathlib.Numerals.{add-one}
 use native.Mathlib.Omega.{arith}
 use lib.ListN.{length, length-append}
@@ -11,8 +11,8 @@ use Rattle.places.specs.Sets.{if_then_else_, keep, each, upto, below, has, list
 use Rattle.messages.specs.Limits.{message-limit}
 use Rattle.messages.specs.Named.{Message}
 use Rattle.records.specs.Records.{Sent, to, tell, wire, framed, octets, records}
-use Rattle.records.specs.Out.{Puts, guarded, told-to, told}
-use Rattle.records.proofs.Laying.{framed-length, guarded-in, put-none, put-then}
+use Rattle.records.specs.Out.{Puts, allowed, guarded, told-to, told}
+use Rattle.records.proofs.Laying.{framed-length, guarded-in, guarded-all, guarded-none, allowed-parts, put-none, put-then}
 
 -- k, k + 1, .. k + n - 1
 unfoldable pub run : (k n : ℕ) → List ℕ
@@ -123,6 +123,41 @@ unfolding each run
 telling-length mask m k zero = omega arith
 telling-length mask m k (suc n) =
     omega (arith, length-append (told-to mask m k) (each (told-to mask m) (run (suc k) n)), told-most mask m k, telling-length mask m (suc k) n, suc-mul n (length m + 4))
+
+-- a record for each connection of the mask
+told-more : (b : Bool) (q n : ℕ) (m l rest : List ℕ) → length rest ≡ length l * n → length m + 4 ≡ n
+    → length ((if b then framed m q else []) ++ rest) ≡ length (if b then q ∷ l else l) * n
+told-more true q n m l rest e k = omega (arith, length-append (framed m q) rest, framed-length m q, suc-mul (length l) n)
+told-more false q n m l rest e k = e
+
+told-count : (mask : ℕ) (m l : List ℕ) → length (each (told-to mask m) l) ≡ length (keep (has mask) l) * (length m + 4)
+unfolding each keep told-to
+told-count mask m [] = sym (zero-mul (length m + 4))
+told-count mask m (q ∷ l) = told-more (has mask q) q (length m + 4) m (keep (has mask) l) (each (told-to mask m) l) (told-count mask m l) refl
+
+pub told-size : (mask : ℕ) (m : List ℕ) → length (told mask m) ≡ length (listed links mask) * (length m + 4)
+unfolding told listed
+told-size mask m = told-count mask m (below links)
+
+-- as many times the size of one record, which may be put or not
+module _ (m : List ℕ) (n : ℕ) (size : (q : ℕ) → n ≡ length (guarded 0 m (framed m q))) where
+  pub size-most : n ≤ message-limit + 4
+  size-most = go (allowed 0 (length m)) refl
+    where
+      go : (b : Bool) → b ≡ allowed 0 (length m) → n ≤ message-limit + 4
+      go true e = omega (arith, size 0, ap length (guarded-all true 0 m (framed m 0) e refl), framed-length m 0, allowed-parts true 0 (length m) e refl .1)
+      go false e = omega (arith, size 0, ap length (guarded-none false 0 m (framed m 0) e refl))
+
+  pub size-told : (mask : ℕ) → length (listed links mask) * n ≡ length (guarded 0 m (told mask m))
+  size-told mask = go (allowed 0 (length m)) refl
+    where
+      go : (b : Bool) → b ≡ allowed 0 (length m) → length (listed links mask) * n ≡ length (guarded 0 m (told mask m))
+      go true e =
+          rw (guarded-all true 0 m (told mask m) e refl, told-size mask m)
+          (ap (λ (k : ℕ). length (listed links mask) * k) (size 0 ∙ ap length (guarded-all true 0 m (framed m 0) e refl) ∙ framed-length m 0))
+      go false e =
+          rw (guarded-none false 0 m (told mask m) e refl)
+          (ap (λ (k : ℕ). length (listed links mask) * k) (size 0 ∙ ap length (guarded-none false 0 m (framed m 0) e refl)) ∙ mul-zero (length (listed links mask)))
 
 pub told-length : (mask : ℕ) (x : Message) → length (records (tell mask x)) ≤ 16 * (length (wire x) + 4)
 told-length mask x = rw (← told-is mask x, ← telling-all mask (wire x)) (telling-length mask (wire x) 0 16)

@@ -2,7 +2,7 @@
 pub mod compose;
 
 ghost use mathlib.Core.Path.{_≡_};
-ghost use Prim.Native.Nat.{_-_, _≤_, min};
+ghost use Prim.Native.Nat.{ℕ, _-_, _≤_, min};
 ghost use lib.ListN.{length, set};
 ghost use Rattle.messages.specs.Limits.{message-limit};
 ghost use Rattle.records.specs.Records.{two, framed};
@@ -97,6 +97,16 @@ pub fn put_ids(s: &mut [u8], at: usize, low: u16, ids: &[u16]) -> usize
     at
 }
 
+// How many octets the record of a message takes, to any connection: none where it may not be put.
+pub fn record_size(m: &[u8]) -> usize
+    ensures { λ r. ⌜ ((q : ℕ) → r ≡ length (guarded 0 (now (m .entry)) (framed (now (m .entry)) q))) ⌝ }
+{
+    if allowed(0, m.len()) {
+        return m.len() + 4;
+    }
+    0
+}
+
 // A record at the start of the room: what follows in two octets, version 1, connection, message.
 pub fn put_record(s: &mut [u8], q: u8, m: &[u8]) -> usize
     ensures { λ r. ⌜ Puts (now (s .entry)) 0 (guarded 0 (now (m .entry)) (framed (now (m .entry)) q)) (now (s .exit)) r ⌝ }
@@ -157,6 +167,14 @@ fn tell_all(out: &mut [u8], from: usize, mask: u16, m: &[u8]) -> usize
         q += 1;
     }
     at
+}
+
+// How many octets the records of a message to each connection of a mask take.
+pub fn told_size(mask: u16, m: &[u8]) -> usize
+    ensures { λ r. ⌜ r ≡ length (guarded 0 (now (m .entry)) (told mask (now (m .entry)))) ⌝ }
+{
+    let count = places::masks::count_links(mask) as usize;
+    count * record_size(m)
 }
 
 pub fn tell(out: &mut [u8], at: usize, mask: u16, m: &[u8]) -> usize

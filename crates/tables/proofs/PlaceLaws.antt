@@ -1,14 +1,13 @@
 -- The number that a search answers, as a place again.
-use mathlib.Core.Path.{_≡_, refl, sym, ap, _∙_}
+use mathlib.Core.Path.{_≡_, refl, sym}
 use mathlib.Core.Bool.{Bool, true, false}
 use mathlib.Core.List.{List}
 use Prim.Native.Nat.{ℕ, _≤_, _<_}
-use native.Mathlib.Omega.{arith}
 use lib.Dec.{ltb}
 use lib.ListN.{length}
-use borrow.Author.Tests.{ltb-true, ltb-false}
+use borrow.Author.Tests.{ltb-true, ltb-false, lt-ltb, le-ltb}
 use Rattle.places.specs.Sets.{if_then_else_}
-use Rattle.places.specs.Places.{Place, At, Nowhere, find, spare, seat, found, number}
+use Rattle.places.specs.Places.{Place, At, Nowhere, find, spare, number}
 use Rattle.places.proofs.Answers.{find-at, find-nowhere, spare-at, spare-nowhere}
 use Rattle.tables.specs.Numbered.{place}
 
@@ -21,18 +20,16 @@ place-is n r p at none = go (ltb r n) refl
     go true e = sym (at (ltb-true r n e))
     go false e = sym (none (ltb-false r n e))
 
-module _ (ids : List ℕ) (x r : ℕ) (is : r ≡ number (length ids) (find ids x)) where
-  pub find-place : place (length ids) r ≡ find ids x
-  find-place = place-is (length ids) r (find ids x) (find-at ids x r is) (find-nowhere ids x r is)
+pub place-in : (n r : ℕ) → r < n → place n r ≡ At r
+unfolding place
+place-in n r h = rw (lt-ltb r n h) refl
 
-  -- an id is written at its own place, or at the spare one
-  pub seat-own : r < length ids → find ids x ≡ seat ids x
-  unfolding seat found
-  seat-own h = rw (find-at ids x r is h) refl
+pub place-out : (n r : ℕ) → n ≤ r → place n r ≡ Nowhere
+unfolding place
+place-out n r h = rw (le-ltb r n h) refl
 
-  pub seat-spare : length ids ≤ r → spare ids ≡ seat ids x
-  unfolding seat found
-  seat-spare h = rw (find-nowhere ids x r is h) refl
+pub find-place : (ids : List ℕ) (x r n : ℕ) → length ids ≡ n → r ≡ number (length ids) (find ids x) → place n r ≡ find ids x
+find-place ids x r n size is = rw size at (place-is (length ids) r (find ids x) (find-at ids x r is) (find-nowhere ids x r is))
 
-pub spare-place : (ids : List ℕ) (r : ℕ) → r ≡ number (length ids) (spare ids) → place (length ids) r ≡ spare ids
-spare-place ids r is = place-is (length ids) r (spare ids) (spare-at ids r is) (spare-nowhere ids r is)
+pub spare-place : (ids : List ℕ) (r n : ℕ) → length ids ≡ n → r ≡ number (length ids) (spare ids) → place n r ≡ spare ids
+spare-place ids r n size is = rw size at (place-is (length ids) r (spare ids) (spare-at ids r is) (spare-nowhere ids r is))

@@ -1,16 +1,17 @@
 // Tokens: the id and state of each place.
 ghost use mathlib.Core.Path.{_≡_};
-ghost use Rattle.places.specs.Places.{store as storeAt};
-ghost use Rattle.tables.specs.Numbered.{place};
-ghost use Rattle.domain.specs.Tables.{tokens-of, token-cells, state as stateIn, set-token};
+ghost use Rattle.places.specs.Sets.{if_then_else_};
+ghost use Rattle.places.specs.Places.{store as storeAt, load, found, spare};
+ghost use Rattle.tables.specs.Numbered.{place, set-at};
+ghost use Rattle.domain.specs.Cells.{hold, no-token};
+ghost use Rattle.domain.specs.Tables.{tokens-of, token-cells, state as stateIn};
 use domain::token::Holding;
 use domain::token::Token;
 
-// The state of token k.
-pub fn state(keys: &[u16; 64], modes: &[u8; 64], values: &[u64; 64], k: u16) -> Holding
-    ensures { λ r. ⌜ r ≡ stateIn (tokens-of (now (keys .entry)) (now (modes .entry)) (now (values .entry))) k ⌝ }
+// The state of the token at place i; where there is no such place it is free.
+pub fn state_at(modes: &[u8; 64], values: &[u64; 64], i: usize) -> Holding
+    ensures { λ r. ⌜ r ≡ hold (load (token-cells (now (modes .entry)) (now (values .entry))) (place 64 i) no-token) ⌝ }
 {
-    let i = places::columns::find(keys, k);
     let ms = &modes[..];
     let vs = &values[..];
     if i < ms.len() {
@@ -22,29 +23,42 @@ pub fn state(keys: &[u16; 64], modes: &[u8; 64], values: &[u64; 64], k: u16) -> 
     Holding::Free
 }
 
-// Token k has state h; a free token has no place.
-pub fn set_state(
+// The state of token k.
+pub fn state(keys: &[u16; 64], modes: &[u8; 64], values: &[u64; 64], k: u16) -> Holding
+    ensures { λ r. ⌜ r ≡ stateIn (tokens-of (now (keys .entry)) (now (modes .entry)) (now (values .entry))) k ⌝ }
+{
+    state_at(modes, values, places::columns::find(keys, k))
+}
+
+// The place for a token: its own, or the spare one where it has none.
+fn seat_for(keys: &[u16; 64], i: usize) -> usize
+    ensures { λ r. ⌜ place 64 r ≡ (if found (place 64 i) then place 64 i else spare (now (keys .entry))) ⌝ }
+{
+    if i < 64 {
+        return i;
+    }
+    places::columns::spare(keys)
+}
+
+// Token k, which stands at place i or nowhere, has state h; a free token has no place.
+pub fn set_at(
     keys: &mut [u16; 64],
     modes: &mut [u8; 64],
     values: &mut [u64; 64],
+    i: usize,
     k: u16,
     h: Holding,
 )
     ensures { λ _. ⌜ tokens-of (now (keys .exit)) (now (modes .exit)) (now (values .exit))
-        ≡ set-token (tokens-of (now (keys .entry)) (now (modes .entry)) (now (values .entry))) k h ⌝ }
+        ≡ set-at (tokens-of (now (keys .entry)) (now (modes .entry)) (now (values .entry))) (place 64 i) k h ⌝ }
 {
-    let i = places::columns::find(keys, k);
     if states::token::free(h) {
         store(keys, modes, values, i, 0, Token { mode: 0, value: 0 });
         return;
     }
     let t = states::token::new_token(h);
-    if i < 64 {
-        store(keys, modes, values, i, k, t);
-    } else {
-        let j = places::columns::spare(keys);
-        store(keys, modes, values, j, k, t);
-    }
+    let j = seat_for(keys, i);
+    store(keys, modes, values, j, k, t);
 }
 
 // An id and its state at place i; where there is no such place nothing changes.

@@ -51,7 +51,7 @@ unfolding test
 returns-3 c = let a = c .before .before .before .before .before .before .before .before .before .before .before .before .before .args in
     let s = c .before .before .before .before .before .before .status-number .ensures ∙ c .before .before .before .before .before .before .before .status .ensures ∙ ap (λ (h : Holding). status h (c .before .before .before .before .before .before .before .before .before .before .before .asker .result)) (c .before .before .before .before .before .before .before .before .before .state .ensures) in
     asks-done (users-of (a .names .now) (a .homes .now)) (a .p) (a .u) _ _ (c .before .before .before .before .before .before .before .before .before .before .before .asker .ensures .1 (c .before .before .before .before .before .before .before .before .before .before .if1 .left)) (tokens-of (a .keys .now) (a .modes .now) (a .values .now)) (a .out .now)
-    (c .before .before .send .ensures (TTcf (a .u) (a .k) (status (state (tokens-of (a .keys .now) (a .modes .now) (a .values .now)) (a .k)) (c .before .before .before .before .before .before .before .before .before .before .before .asker .result))) (tokens-of (a .keys .now) (a .modes .now) (a .values .now)) (tokens-of (a .keys .now) (a .modes .now) (a .values .now)) (c .before .before .before .before .before .test-confirm .ensures ∙ ap (λ (n : ℕ). wire (TTcf (a .u) (a .k) n)) s))
+    (c .before .before .send .ensures .1 (TTcf (a .u) (a .k) (status (state (tokens-of (a .keys .now) (a .modes .now) (a .values .now)) (a .k)) (c .before .before .before .before .before .before .before .before .before .before .before .asker .result))) (tokens-of (a .keys .now) (a .modes .now) (a .values .now)) (tokens-of (a .keys .now) (a .modes .now) (a .values .now)) (c .before .before .before .before .before .test-confirm .ensures ∙ ap (λ (n : ℕ). wire (TTcf (a .u) (a .k) n)) s))
 
 pub test-spec : {M : Type 1} → statement M
 test-spec =

@@ -3,31 +3,21 @@ use Rattle.channels.proofs.Sending.{whole-full, whole-done}
 use Rattle.channels.proofs.answers.confirm.Statement.{statement}
 use Rattle.channels.proofs.answers.confirm.Tie as tie
 
-slice-aggregate-put-record : tie.Need-slice-aggregate-put-record
-slice-aggregate-put-record c = search needs
-
-put-record-requires : tie.Need-put-record-requires
-put-record-requires c κs = tt
+record-size-requires : tie.Need-record-size-requires
+record-size-requires c κs = search needs
 
 returns : tie.Need-returns
-returns c = whole-full _ (c .before .before .before .before .before .before .args .out .now) _ _ (c .before .before .put-record .ensures) (c .if1 .taken)
+returns c = whole-full _ (c .before .before .before .before .args .out .now) _ (c .before .record-size .ensures (c .before .before .before .before .args .p)) (c .if1 .taken)
 
-put-record-requires-2 : tie.Need-put-record-requires-2
-put-record-requires-2 c κs = tt
+put-record-requires : tie.Need-put-record-requires
+put-record-requires c κs = search needs
 
 same-length : tie.Need-same-length
 same-length c = search needs
 
 returns-2 : tie.Need-returns-2
-returns-2 c = whole-done _ (c .before .before .before .before .before .before .before .before .before .before .args .out .now) _ _ (c .before .before .before .before .before .before .put-record .ensures) (c .before .before .before .before .if1 .left) _ _ (c .before .before .put-record2 .ensures)
+returns-2 c = whole-done _ (c .before .before .before .before .before .before .before .before .args .out .now) _ (c .before .before .before .before .before .record-size .ensures (c .before .before .before .before .before .before .before .before .args .p)) (c .before .before .before .before .if1 .left) _ _ (c .before .before .put-record .ensures)
 
 pub confirm-spec : {M : Type 1} → statement M
 confirm-spec =
-    tie.close
-    (tie.spec
-    slice-aggregate-put-record
-    put-record-requires
-    returns
-    put-record-requires-2
-    same-length
-    returns-2)
+    tie.close (tie.spec record-size-requires returns put-record-requires same-length returns-2)

@@ -1,0 +1,29 @@
+use mathlib.Core.Path.{_∙_}
+use Rattle.domain.specs.Tables.{tokens-of}
+use Rattle.tables.specs.Numbered.{place}
+use Rattle.tables.proofs.TokenLaws.{set-found}
+use Rattle.passing.specs.Deeds.{fated}
+use Rattle.passing.proofs.Doing.{unfated}
+use borrow.Author.Needs.{needs}
+use Rattle.passing.proofs.keep.Statement.{statement}
+use Rattle.passing.proofs.keep.Tie as tie
+
+enum-known-fate : tie.Need-enum-known-fate
+enum-known-fate c = search needs
+
+set-at-requires : tie.Need-set-at-requires
+set-at-requires c κs = search needs
+
+returns : tie.Need-returns
+unfolding fated
+returns c =
+    λ e. let a = c .before .before .before .before .before .before .before .args in
+    rw (c .before .before .before .before .before .fate .given .1) (c .set-at .ensures ∙ set-found (tokens-of (a .keys .now) (a .modes .now) (a .values .now)) (a .k) (c .before .before .before .before .before .fate .given .0 .0) (place 64 (a .at)) e)
+
+returns-2 : tie.Need-returns-2
+returns-2 c =
+    λ e. let a = c .before .args in
+    unfated (tokens-of (a .keys .now) (a .modes .now) (a .values .now)) (a .k) (a .fate) (c .match .keys2)
+
+pub keep-spec : {M : Type 1} → statement M
+keep-spec = tie.close (tie.spec enum-known-fate set-at-requires returns returns-2)
