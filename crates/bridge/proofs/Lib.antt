@@ -5,4 +5,3 @@ pub mod Lending
 pub mod OneStruct
 pub mod Reading
 pub mod Showing
-pub mod Starting

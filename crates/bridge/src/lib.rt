@@ -1,7 +1,5 @@
 // The edge for a conference bridge written in C: one domain in a struct that the bridge keeps. Each function lends the struct's fields to
 // the provider; any contents are taken.
-mod columns;
-
 ghost use mathlib.Core.Path.{_≡_};
 ghost use mathlib.Core.List.{List};
 ghost use Prim.Native.Nat.{ℕ};
@@ -12,6 +10,7 @@ ghost use Rattle.domain.specs.Events.{opens, loses, hears};
 ghost use Rattle.reception.specs.Reception.{begun, after, audience};
 ghost use Rattle.provider.specs.Provider.{understood};
 ghost use Rattle.bridge.specs.Held.{domain-in};
+use edge::Answered;
 
 // The domain: its limits, the open connections, and the columns of the users, channels and tokens.
 #[repr(C)]
@@ -32,19 +31,12 @@ pub struct Domain {
     pub values: [u64; 64],
 }
 
-// What an event is answered with: the reply's number, and how many octets are sent.
-#[repr(C)]
-pub struct Answered {
-    pub reply: u32,
-    pub sent: usize,
-}
-
 // A domain with these limits, and nothing in it; a limit out of range leaves the struct as it is.
 #[no_mangle]
 pub extern "C" fn ladlestorm_start(d: &mut Domain, channels: u32, users: u32, tokens: u32) -> u32
     ensures { λ r. ⌜ _≡_ {A = ℕ × Tables} (r, domain-in (now (d .exit))) (begun channels users tokens (domain-in (now (d .entry)))) ⌝ }
 {
-    columns::start(
+    edge::start(
         &mut d.channels,
         &mut d.users,
         &mut d.tokens,
@@ -70,7 +62,7 @@ pub extern "C" fn ladlestorm_start(d: &mut Domain, channels: u32, users: u32, to
 pub extern "C" fn ladlestorm_open(d: &mut Domain, p: u8) -> u32
     ensures { λ r. ⌜ ((out : List ℕ) → settled r 0 (domain-in (now (d .exit))) out ≡ after (domain-in (now (d .entry))) (opens p) out) ⌝ }
 {
-    columns::open(
+    edge::open(
         &mut d.channels,
         &mut d.users,
         &mut d.tokens,
@@ -94,7 +86,7 @@ pub extern "C" fn ladlestorm_open(d: &mut Domain, p: u8) -> u32
 pub extern "C" fn ladlestorm_lose(d: &mut Domain, p: u8, out: &mut [u8]) -> Answered
     ensures { λ r. ⌜ settled (r .reply) (r .sent) (domain-in (now (d .exit))) (now (out .exit)) ≡ after (domain-in (now (d .entry))) (loses p) (now (out .entry)) ⌝ }
 {
-    columns::lose(
+    edge::lose(
         &mut d.channels,
         &mut d.users,
         &mut d.tokens,
@@ -125,7 +117,7 @@ pub extern "C" fn ladlestorm_message(
     ensures { λ r. ⌜ settled (r .reply) (r .sent) (domain-in (now (d .exit))) (now (out .exit))
         ≡ after (domain-in (now (d .entry))) (hears p (understood (now (octets .entry)))) (now (out .entry)) ⌝ }
 {
-    columns::message(
+    edge::message(
         &mut d.channels,
         &mut d.users,
         &mut d.tokens,
@@ -151,7 +143,7 @@ pub extern "C" fn ladlestorm_message(
 pub extern "C" fn ladlestorm_audience(d: &Domain, c: u16) -> u32
     ensures { λ r. ⌜ r ≡ audience (domain-in (now (d .entry)) .channels) c ⌝ }
 {
-    columns::audience(&d.ids, &d.roles, &d.chairs, &d.guests, &d.marks, c)
+    edge::audience(&d.ids, &d.roles, &d.chairs, &d.guests, &d.marks, c)
 }
 
 // The users in use.
@@ -159,7 +151,7 @@ pub extern "C" fn ladlestorm_audience(d: &Domain, c: u16) -> u32
 pub extern "C" fn ladlestorm_users(d: &Domain) -> usize
     ensures { λ r. ⌜ r ≡ used (domain-in (now (d .entry)) .users .ids) ⌝ }
 {
-    columns::used_of_64(&d.names)
+    edge::used_of_64(&d.names)
 }
 
 // The channels in use.
@@ -167,7 +159,7 @@ pub extern "C" fn ladlestorm_users(d: &Domain) -> usize
 pub extern "C" fn ladlestorm_channels(d: &Domain) -> usize
     ensures { λ r. ⌜ r ≡ used (domain-in (now (d .entry)) .channels .ids) ⌝ }
 {
-    columns::used_of_128(&d.ids)
+    edge::used_of_128(&d.ids)
 }
 
 // The tokens in use.
@@ -175,5 +167,5 @@ pub extern "C" fn ladlestorm_channels(d: &Domain) -> usize
 pub extern "C" fn ladlestorm_tokens(d: &Domain) -> usize
     ensures { λ r. ⌜ r ≡ used (domain-in (now (d .entry)) .tokens .ids) ⌝ }
 {
-    columns::used_of_64(&d.keys)
+    edge::used_of_64(&d.keys)
 }

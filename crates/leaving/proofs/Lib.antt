@@ -1,2 +1,1 @@
-pub mod LeaverLaws
 pub mod SettleLaws

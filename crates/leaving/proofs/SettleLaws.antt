@@ -16,7 +16,7 @@ use Rattle.domain.specs.Channels.{places}
 use Rattle.domain.specs.Effects.{settled, sends, settle}
 use Rattle.domain.specs.Leaving.{fate, farewell, leave, those-on, detach, close}
 use Rattle.domain.proofs.Effects.{sends-full, sends-done}
-use Rattle.leaving.specs.Lists.{Holds}
+use Rattle.leavers.specs.Lists.{Holds}
 
 abbrev pub domain : (l : Limits) (m : ℕ) (us : Users) (cs : Channels) (ts : Tokens) → Domain
 domain l m us cs ts = record { limits = l; links = m; users = us; channels = cs; tokens = ts }

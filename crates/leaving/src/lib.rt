@@ -1,6 +1,4 @@
 // Leaving: the users listed in a DUrq, or all those of a connection that closes. They leave together, judged on the tables before.
-mod leavers;
-
 ghost use mathlib.Core.Path.{_≡_};
 ghost use mathlib.Core.Bool.{true, false};
 ghost use Prim.Native.Nat.{ℕ, _%_, _≤_, _<_};

@@ -13,11 +13,11 @@ use Rattle.records.specs.Records.{to, wire}
 use Rattle.domain.specs.Tables.{Tokens}
 use Rattle.domain.specs.Effects.{Effect, done, ignored, settled, settle}
 use Rattle.domain.proofs.Effects.{sends-none, settle-done}
-use Rattle.passing.specs.declared.deeds.Fate.{Fate}
-use Rattle.passing.specs.declared.deeds.Fate.the-variants.{Ignored, Stays, Turns}
-use Rattle.passing.specs.declared.deeds.Deed.{Deed}
-use Rattle.passing.specs.Deeds.{Told, telling, Tells, fated, doing, Does}
-use Rattle.passing.proofs.deeds.Fate.{the-type}
+use Rattle.deeds.specs.declared.Fate.{Fate}
+use Rattle.deeds.specs.declared.Fate.the-variants.{Ignored, Stays, Turns}
+use Rattle.deeds.specs.declared.Deed.{Deed}
+use Rattle.deeds.specs.Deeds.{Told, telling, Tells, fated, doing, Does}
+use Rattle.deeds.proofs.Fate.{the-type}
 use Rattle.passing.proofs.Settling.{one-full}
 
 -- ---- who is told

@@ -1,4 +1,2 @@
-pub mod Asking
 pub mod Settling
-pub mod Deciding
 pub mod Doing

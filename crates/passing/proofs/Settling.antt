@@ -17,7 +17,7 @@ use Rattle.domain.specs.Tables.{Users, Tokens, attached}
 use Rattle.domain.specs.Effects.{Effect, done, from, Settled, settled, settle}
 use Rattle.domain.proofs.Effects.{sends-full, sends-done, settle-done}
 use Rattle.places.specs.Places.{At}
-use Rattle.passing.proofs.Asking.{from-at}
+use Rattle.deeds.proofs.Asking.{from-at}
 
 pub test-length : (u k s : ℕ) → length (wire (TTcf u k s)) ≡ 6
 unfolding wire fields row entry octetsOfMsg

@@ -1,6 +1,4 @@
 // Requests about tokens, on lent columns: TGrq, TIrq, TRrq, TVrq, TVrs, TPrq, TTrq. Each decides, refuses what has no room, then stores and sends.
-mod deeds;
-
 ghost use mathlib.Core.Path.{_≡_};
 ghost use mathlib.Core.List.{[], _∷_};
 ghost use Prim.Native.Nat.{_+_, _%_, _≤_};
@@ -15,11 +13,11 @@ ghost use Rattle.domain.specs.Tables.{Tokens, users-of, tokens-of, at-limit};
 ghost use Rattle.domain.specs.Effects.{Effect, settle, answered, done};
 ghost use Rattle.domain.specs.Passing.{take-token, share-token, drop-token, offer as offerOf, answer as answerOf, please as pleaseOf, test as testOf};
 ghost use Rattle.tables.specs.Numbered.{place};
-ghost use Rattle.passing.specs.Deeds.{Tells, Does, fated, asked};
-use crate::deeds::Ask;
-use crate::deeds::Deed;
-use crate::deeds::Fate;
-use crate::deeds::NOWHERE;
+ghost use Rattle.deeds.specs.Deeds.{Tells, Does, fated, asked};
+use deeds::Ask;
+use deeds::Deed;
+use deeds::Fate;
+use deeds::NOWHERE;
 use domain::answer::Answer;
 use domain::numbers::Reply;
 

@@ -1,4 +1,4 @@
--- `bridge::ladlestorm_audience` meets its contract: a walk of its MIR. A share of the struct's fields is lent to `columns::audience` for a lifetime that is
+-- `bridge::ladlestorm_audience` meets its contract: a walk of its MIR. A share of the struct's fields is lent to `edge::audience` for a lifetime that is
 -- made for the call (`Reading.antt`). tests/bridge/walks writes this file. Assumes nothing.
 use mathlib.Core.Path.{_≡_, refl}
 use mathlib.Core.Bool.{_&&_}
@@ -38,10 +38,10 @@ use Rattle.bridge.proofs.Fields.{R, fields, held}
 use Rattle.bridge.proofs.Giving.{gave-all, all-gave}
 use Rattle.bridge.proofs.Showing as L
 use Rattle.bridge.proofs.Reading.{Call, Waits, opens as lends, closes}
-use Rattle.bridge.proofs.columns.audience as callee
-use Rattle.bridge.proofs.columns.audience.Symbol as callee-def
-use Rattle.bridge.proofs.columns.audience.Symbol.{name as #callee}
-use Rattle.bridge.proofs.columns.audience.Met as callee-thm
+use Rattle.edge.proofs.audience as callee
+use Rattle.edge.proofs.audience.Symbol as callee-def
+use Rattle.edge.proofs.audience.Symbol.{name as #callee}
+use Rattle.edge.proofs.audience.Met as callee-thm
 use Rattle.bridge.proofs.ladlestorm_audience.Key.{name as #f}
 use Rattle.bridge.proofs.ladlestorm_audience as f
 use Rattle.bridge.proofs.ladlestorm_audience.Statement as stated
@@ -111,4 +111,4 @@ unfolding code.routine tablesOf
 ladlestorm-audience-spec 𝓤 H 𝓜 𝓖 𝓡 =
     entered 𝓤 H (tripleOf 𝓤 H (𝓖 .A) f.signature (f.spec 𝓤 H (𝓖 .A) (𝓜 .mem) (𝓡 .run))) (tables 𝓤 H 𝓜 𝓡 code.env .C) (tables 𝓤 H 𝓜 𝓡 code.env .Λ) #f code.function (code.unfolded 𝓤 H 𝓜 𝓡)
     (meets 𝓤 H (𝓖 .A) (givenOf 𝓤 H 𝓜 𝓖) (𝓜 .mem) (𝓡 .run) (tablesOf 𝓤 H 𝓜 (tables 𝓤 H 𝓜 𝓡 code.env))
-    (cited 𝓤 H (Callee 𝓤 H (𝓖 .A) (𝓜 .mem) (𝓡 .run)) 𝓜 𝓡 code.env #callee callee-def.routine code.calls-bridge·columns·audience (callee-thm.met 𝓤 H 𝓜 𝓖 𝓡)))
+    (cited 𝓤 H (Callee 𝓤 H (𝓖 .A) (𝓜 .mem) (𝓡 .run)) 𝓜 𝓡 code.env #callee callee-def.routine code.calls-edge·audience (callee-thm.met 𝓤 H 𝓜 𝓖 𝓡)))

@@ -1,4 +1,4 @@
--- `bridge::ladlestorm_lose` meets its contract: a walk of its MIR. The struct's fields are lent to `columns::lose` for a lifetime that is made for
+-- `bridge::ladlestorm_lose` meets its contract: a walk of its MIR. The struct's fields are lent to `edge::lose` for a lifetime that is made for
 -- the call, and the struct comes back at what they held last (`Changing.antt`). tests/bridge/walks writes this file. Assumes nothing.
 use mathlib.Core.Path.{_≡_, refl}
 use mathlib.Core.List.{List, [], _∷_}
@@ -38,18 +38,18 @@ use Rattle.domain.specs.Effects.{settled}
 use Rattle.domain.specs.Events.{loses}
 use Rattle.reception.specs.Reception.{after}
 use Rattle.bridge.specs.Held.{domain-in}
-use Rattle.bridge.specs.declared.Answered.{Answered}
+use Rattle.edge.specs.declared.Answered.{Answered}
 use Rattle.bridge.specs.declared.Domain.{Domain}
-use Rattle.bridge.proofs.Answered as S
-use Rattle.bridge.proofs.Answered.Laws as S′
+use Rattle.edge.proofs.Answered as S
+use Rattle.edge.proofs.Answered.Laws as S′
 use Rattle.bridge.proofs.Fields.{R, fields, held}
 use Rattle.bridge.proofs.Giving.{others as rest, gave-all, all-gave}
 use Rattle.bridge.proofs.Lending as L
 use Rattle.bridge.proofs.Changing.{Call, Waits, opens as lends, closes}
-use Rattle.bridge.proofs.columns.lose as callee
-use Rattle.bridge.proofs.columns.lose.Symbol as callee-def
-use Rattle.bridge.proofs.columns.lose.Symbol.{name as #callee}
-use Rattle.bridge.proofs.columns.lose.Met as callee-thm
+use Rattle.edge.proofs.lose as callee
+use Rattle.edge.proofs.lose.Symbol as callee-def
+use Rattle.edge.proofs.lose.Symbol.{name as #callee}
+use Rattle.edge.proofs.lose.Met as callee-thm
 use Rattle.bridge.proofs.ladlestorm_lose.Key.{name as #f}
 use Rattle.bridge.proofs.ladlestorm_lose as f
 use Rattle.bridge.proofs.ladlestorm_lose.Statement as stated
@@ -136,4 +136,4 @@ unfolding code.routine tablesOf
 ladlestorm-lose-spec 𝓤 H 𝓜 𝓖 𝓡 =
     entered 𝓤 H (tripleOf 𝓤 H (𝓖 .A) f.signature (f.spec 𝓤 H (𝓖 .A) (𝓜 .mem) (𝓡 .run))) (tables 𝓤 H 𝓜 𝓡 code.env .C) (tables 𝓤 H 𝓜 𝓡 code.env .Λ) #f code.function (code.unfolded 𝓤 H 𝓜 𝓡)
     (meets 𝓤 H (𝓖 .A) (givenOf 𝓤 H 𝓜 𝓖) (𝓜 .mem) (𝓡 .run) (tablesOf 𝓤 H 𝓜 (tables 𝓤 H 𝓜 𝓡 code.env))
-    (cited 𝓤 H (Callee 𝓤 H (𝓖 .A) (𝓜 .mem) (𝓡 .run)) 𝓜 𝓡 code.env #callee callee-def.routine code.calls-bridge·columns·lose (callee-thm.met 𝓤 H 𝓜 𝓖 𝓡)))
+    (cited 𝓤 H (Callee 𝓤 H (𝓖 .A) (𝓜 .mem) (𝓡 .run)) 𝓜 𝓡 code.env #callee callee-def.routine code.calls-edge·lose (callee-thm.met 𝓤 H 𝓜 𝓖 𝓡)))

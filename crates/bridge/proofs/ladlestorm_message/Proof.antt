@@ -1,4 +1,4 @@
--- `bridge::ladlestorm_message` meets its contract: a walk of its MIR. The struct's fields are lent to `columns::message` for a lifetime that is made for
+-- `bridge::ladlestorm_message` meets its contract: a walk of its MIR. The struct's fields are lent to `edge::message` for a lifetime that is made for
 -- the call, and the struct comes back at what they held last (`Changing.antt`). tests/bridge/walks writes this file. Assumes nothing.
 use mathlib.Core.Path.{_≡_, refl}
 use mathlib.Core.List.{List, [], _∷_}
@@ -39,18 +39,18 @@ use Rattle.domain.specs.Events.{hears}
 use Rattle.reception.specs.Reception.{after}
 use Rattle.provider.specs.Provider.{understood}
 use Rattle.bridge.specs.Held.{domain-in}
-use Rattle.bridge.specs.declared.Answered.{Answered}
+use Rattle.edge.specs.declared.Answered.{Answered}
 use Rattle.bridge.specs.declared.Domain.{Domain}
-use Rattle.bridge.proofs.Answered as S
-use Rattle.bridge.proofs.Answered.Laws as S′
+use Rattle.edge.proofs.Answered as S
+use Rattle.edge.proofs.Answered.Laws as S′
 use Rattle.bridge.proofs.Fields.{R, fields, held}
 use Rattle.bridge.proofs.Giving.{others as rest, gave-all, all-gave}
 use Rattle.bridge.proofs.Lending as L
 use Rattle.bridge.proofs.Changing.{Call, Waits, opens as lends, closes}
-use Rattle.bridge.proofs.columns.message as callee
-use Rattle.bridge.proofs.columns.message.Symbol as callee-def
-use Rattle.bridge.proofs.columns.message.Symbol.{name as #callee}
-use Rattle.bridge.proofs.columns.message.Met as callee-thm
+use Rattle.edge.proofs.message as callee
+use Rattle.edge.proofs.message.Symbol as callee-def
+use Rattle.edge.proofs.message.Symbol.{name as #callee}
+use Rattle.edge.proofs.message.Met as callee-thm
 use Rattle.bridge.proofs.ladlestorm_message.Key.{name as #f}
 use Rattle.bridge.proofs.ladlestorm_message as f
 use Rattle.bridge.proofs.ladlestorm_message.Statement as stated
@@ -137,4 +137,4 @@ unfolding code.routine tablesOf
 ladlestorm-message-spec 𝓤 H 𝓜 𝓖 𝓡 =
     entered 𝓤 H (tripleOf 𝓤 H (𝓖 .A) f.signature (f.spec 𝓤 H (𝓖 .A) (𝓜 .mem) (𝓡 .run))) (tables 𝓤 H 𝓜 𝓡 code.env .C) (tables 𝓤 H 𝓜 𝓡 code.env .Λ) #f code.function (code.unfolded 𝓤 H 𝓜 𝓡)
     (meets 𝓤 H (𝓖 .A) (givenOf 𝓤 H 𝓜 𝓖) (𝓜 .mem) (𝓡 .run) (tablesOf 𝓤 H 𝓜 (tables 𝓤 H 𝓜 𝓡 code.env))
-    (cited 𝓤 H (Callee 𝓤 H (𝓖 .A) (𝓜 .mem) (𝓡 .run)) 𝓜 𝓡 code.env #callee callee-def.routine code.calls-bridge·columns·message (callee-thm.met 𝓤 H 𝓜 𝓖 𝓡)))
+    (cited 𝓤 H (Callee 𝓤 H (𝓖 .A) (𝓜 .mem) (𝓡 .run)) 𝓜 𝓡 code.env #callee callee-def.routine code.calls-edge·message (callee-thm.met 𝓤 H 𝓜 𝓖 𝓡)))

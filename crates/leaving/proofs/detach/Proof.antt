@@ -3,7 +3,7 @@ use mathlib.Core.Path.{_∙_}
 use lib.ListN.{take}
 use borrow.Author.Needs.{needs}
 use Rattle.domain.specs.Tables.{domain-of}
-use Rattle.leaving.proofs.LeaverLaws.{holds-none, holds-some}
+use Rattle.leavers.proofs.LeaverLaws.{holds-none, holds-some}
 use Rattle.leaving.proofs.SettleLaws.{detach-none, detach-some}
 use Rattle.leaving.proofs.detach.Statement.{statement}
 use Rattle.leaving.proofs.detach.Tie as tie

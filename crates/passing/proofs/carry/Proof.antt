@@ -3,7 +3,7 @@ use borrow.Author.Tests.{eq-eqb, ne-eqb}
 use Rattle.domain.specs.Tables.{Tokens, tokens-of}
 use Rattle.domain.specs.Effects.{Effect, settle}
 use Rattle.domain.proofs.Effects.{settle-ignored}
-use Rattle.passing.specs.Deeds.{fated}
+use Rattle.deeds.specs.Deeds.{fated}
 use Rattle.passing.proofs.Doing.{does-ignored, does-tell}
 use borrow.Author.Needs.{needs}
 use Rattle.passing.proofs.carry.Statement.{statement}

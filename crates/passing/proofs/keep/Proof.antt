@@ -2,7 +2,7 @@ use mathlib.Core.Path.{_∙_}
 use Rattle.domain.specs.Tables.{tokens-of}
 use Rattle.tables.specs.Numbered.{place}
 use Rattle.tables.proofs.TokenLaws.{set-found}
-use Rattle.passing.specs.Deeds.{fated}
+use Rattle.deeds.specs.Deeds.{fated}
 use Rattle.passing.proofs.Doing.{unfated}
 use borrow.Author.Needs.{needs}
 use Rattle.passing.proofs.keep.Statement.{statement}

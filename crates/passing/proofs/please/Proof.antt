@@ -1,5 +1,5 @@
 use Rattle.domain.specs.Tables.{users-of, tokens-of, state}
-use Rattle.passing.proofs.Asking.{asks-ignored}
+use Rattle.deeds.proofs.Asking.{asks-ignored}
 use Rattle.messages.specs.Named.{TPin}
 use Rattle.domain.specs.Passing.{please}
 use Rattle.passing.proofs.Settling.{asks-done}

@@ -1,6 +1,6 @@
 use mathlib.Core.Path.{ap, _∙_}
 use Rattle.domain.specs.Tables.{users-of, tokens-of, state}
-use Rattle.passing.proofs.Asking.{asks-ignored}
+use Rattle.deeds.proofs.Asking.{asks-ignored}
 use Prim.Native.Nat.{ℕ}
 use Rattle.messages.specs.Named.{TTcf}
 use Rattle.records.specs.Records.{wire}

@@ -1,0 +1,159 @@
+-- What is decided of a token is what the request asks for. Assumes nothing.
+use mathlib.Core.Path.{_≡_, refl, sym, ap, _∙_}
+use mathlib.Core.Bool.{Bool, true, false}
+use mathlib.Core.List.{List, [], _∷_}
+use Prim.Native.Nat.{ℕ}
+use lib.Dec.{eqb}
+use types.Run.{OneOf, miss}
+use denote.Enum.Declared.{tagOf}
+use Rattle.places.specs.Sets.{if_then_else_}
+use Rattle.places.specs.Places.{Place, At, Nowhere, find}
+use Rattle.messages.specs.Named.{Message, TGcf, TIcf, TRcf, TVin, TVcf, successful, no-such-user, token-not-possessed}
+use Rattle.records.specs.Records.{to, wire}
+use Rattle.records.specs.Confirms.{confirm}
+use Rattle.records.specs.declared.compose.Confirm.{Confirm}
+use Rattle.records.specs.declared.compose.Confirm.the-variants.{Give}
+use Rattle.domain.specs.declared.numbers.Result.{Result}
+use Rattle.domain.specs.declared.token.Holding.{Holding}
+use Rattle.domain.specs.declared.token.Holding.the-variants.{Free, Grabbed, Inhibited, Giving, Given}
+use Rattle.domain.proofs.token.Holding.{the-type}
+use Rattle.domain.specs.declared.token.Turned.{Turned as CodeTurned}
+use Rattle.domain.specs.declared.token.Turned.the-variants.{Fails, Turns as TurnsTo}
+use Rattle.domain.specs.Numbers.{resultNumber}
+use Rattle.domain.specs.Tokens.{Turned, turnedOf, grab, inhibit, release, status, grabbed-by, offered-to, answered}
+use Rattle.domain.specs.Tables.{Users, Tokens, link, name, attached, is-free, state, set-token}
+use Rattle.domain.specs.Effects.{Effect, done, ignored, from}
+use Rattle.domain.specs.Passing.{turn, take-token, share-token, drop-token, offer, answer, informed}
+use Rattle.deeds.specs.declared.Ask.{Ask}
+use Rattle.deeds.specs.declared.Ask.the-variants.{Grab, Inhibit, Release, Offer, Answer}
+use Rattle.deeds.specs.declared.Fate.the-variants.{Ignored, Stays, Turns}
+use Rattle.deeds.specs.declared.Deed.{Deed}
+use Rattle.deeds.specs.Deeds.{asked, telling, fated, doing, Does}
+use Rattle.deeds.proofs.Asking.{from-at, from-nowhere}
+
+-- ---- a deed, and the effect that it is
+module _ (ts : Tokens) (k : ℕ) where
+  module _ {q : ℕ} {m : List ℕ} (x : Message) (o : m ≡ wire x) {e : Effect Tokens} where
+    pub stays : e ≡ done ts (to q x ∷ []) → Does ts k (record { fate = Stays; told = true; q = q; m = m }) e
+    unfolding Does doing telling fated
+    stays r = record { message = x; octets = o; effect = r }
+
+    pub turns : (h : Holding) → e ≡ done (set-token ts k h) (to q x ∷ []) → Does ts k (record { fate = Turns h; told = true; q = q; m = m }) e
+    unfolding Does doing telling fated
+    turns h r = record { message = x; octets = o; effect = r }
+
+  module _ (d : Deed) {e : Effect Tokens} where
+    pub quiet-ignored : d .fate ≡ Ignored → e ≡ ignored → Does ts k d e
+    unfolding Does doing
+    quiet-ignored f r = rw f r
+
+    pub quiet-turns : (h : Holding) → d .fate ≡ Turns h → d .told ≡ false → e ≡ done (set-token ts k h) [] → Does ts k d e
+    unfolding Does doing telling fated
+    quiet-turns h f t r = rw (f, t) r
+
+    pub does-as : {w : Effect Tokens} → Does ts k d w → w ≡ e → Does ts k d e
+    does-as p r = rw r at p
+
+-- ---- what a request makes of its token
+module _ (ts : Tokens) (p u i k : ℕ) (kind : Confirm) (t : CodeTurned) {m : List ℕ} where
+  pub turned-fails : (h : Holding) (why : Result) (n : ℕ) → h ≡ state ts k → t ≡ Fails why → n ≡ resultNumber why → m ≡ wire (confirm kind n u k (status h i))
+      → Does ts k (record { fate = Stays; told = true; q = p; m = m }) (turn ts p u i k (confirm kind) (turnedOf t))
+  unfolding turn
+  turned-fails h why n is e r o = stays ts k (confirm kind n u k (status h i)) o (rw (e, is, r) refl)
+
+  pub turned-turns : (h : Holding) → t ≡ TurnsTo h → m ≡ wire (confirm kind 0 u k (status h i))
+      → Does ts k (record { fate = Turns h; told = true; q = p; m = m }) (turn ts p u i k (confirm kind) (turnedOf t))
+  unfolding turn
+  turned-turns h e o = turns ts k (confirm kind 0 u k (status h i)) o h (rw e refl)
+
+-- whether the limit is reached matters for a free token alone
+pub grab-same : (h : Holding) (u : ℕ) (a b : Bool) → (is-free h ≡ true → a ≡ b) → grab a h u ≡ grab b h u
+unfolding is-free grab
+grab-same Free u a b e = ap (λ (f : Bool). grab f Free u) (e refl)
+grab-same (Grabbed g) u a b e = refl
+grab-same (Inhibited is) u a b e = refl
+grab-same (Giving g r) u a b e = refl
+grab-same (Given r) u a b e = refl
+
+pub inhibit-same : (h : Holding) (u : ℕ) (a b : Bool) → (is-free h ≡ true → a ≡ b) → inhibit a h u ≡ inhibit b h u
+unfolding is-free inhibit
+inhibit-same Free u a b e = ap (λ (f : Bool). inhibit f Free u) (e refl)
+inhibit-same (Grabbed g) u a b e = refl
+inhibit-same (Inhibited is) u a b e = refl
+inhibit-same (Giving g r) u a b e = refl
+inhibit-same (Given r) u a b e = refl
+
+-- what is made of it for the user at place i is what the request makes of it
+module _ (full : Bool) (us : Users) (ts : Tokens) (p u i k : ℕ) (here : attached us p u ≡ At i) (h : Holding) (is : h ≡ state ts k) (t : Turned) (ask : Ask) where
+  turn-from : (confirms : (ℕ → ℕ → ℕ → ℕ → Message)) (act : (Holding → ℕ → Turned)) → t ≡ act h i
+      → turn ts p u i k confirms t ≡ from us p u λ j. turn ts p u j k confirms (act (state ts k) j)
+  turn-from confirms act e =
+      ap (turn ts p u i k confirms) (e ∙ ap (λ (x : Holding). act x i) is) ∙ sym (from-at us p u (λ j. turn ts p u j k confirms (act (state ts k) j)) i here)
+
+  pub grabs : (b : Bool) → ask ≡ Grab → t ≡ grab b h i → (is-free h ≡ true → b ≡ full) → turn ts p u i k TGcf t ≡ asked ask full us ts p u k
+  unfolding take-token
+  grabs b e r f = turn-from TGcf (grab full) (r ∙ grab-same h i b full f) ∙ ap (λ (x : Ask). asked x full us ts p u k) (sym e)
+
+  pub inhibits : (b : Bool) → ask ≡ Inhibit → t ≡ inhibit b h i → (is-free h ≡ true → b ≡ full) → turn ts p u i k TIcf t ≡ asked ask full us ts p u k
+  unfolding share-token
+  inhibits b e r f = turn-from TIcf (inhibit full) (r ∙ inhibit-same h i b full f) ∙ ap (λ (x : Ask). asked x full us ts p u k) (sym e)
+
+  pub releases : ask ≡ Release → t ≡ release h i → turn ts p u i k TRcf t ≡ asked ask full us ts p u k
+  unfolding drop-token
+  releases e r = turn-from TRcf release r ∙ ap (λ (x : Ask). asked x full us ts p u k) (sym e)
+
+pub asked-nowhere : (ask : Ask) (full : Bool) (us : Users) (ts : Tokens) (p u k : ℕ) → attached us p u ≡ Nowhere → asked ask full us ts p u k ≡ ignored
+unfolding take-token share-token drop-token offer answer
+asked-nowhere Grab full us ts p u k e = from-nowhere us p u _ e
+asked-nowhere Inhibit full us ts p u k e = from-nowhere us p u _ e
+asked-nowhere Release full us ts p u k e = from-nowhere us p u _ e
+asked-nowhere (Offer r) full us ts p u k e = from-nowhere us p u _ e
+asked-nowhere (Answer n) full us ts p u k e = from-nowhere us p u _ e
+
+-- ---- TVrq
+module _ (us : Users) (ts : Tokens) (p u i k r : ℕ) where
+  to-place : Place → Effect Tokens
+  to-place w = elim w [
+    | At j ↦ done (set-token ts k (Giving i j)) (to (link us j) (TVin u k r) ∷ [])
+    | Nowhere ↦ done ts (to p (TVcf no-such-user u k (status (state ts k) i)) ∷ [])
+  ]
+
+  offer-by : Bool → Effect Tokens
+  offer-by b = if b then to-place (find (us .ids) r) else done ts (to p (TVcf token-not-possessed u k (status (state ts k) i)) ∷ [])
+
+  module _ (here : attached us p u ≡ At i) {h : Holding} (is : h ≡ state ts k) where
+    offer-is : (b : Bool) → grabbed-by h i ≡ b → offer us ts p u k r ≡ offer-by b
+    unfolding offer offer-by to-place
+    offer-is b g = from-at us p u _ i here ∙ ap offer-by (ap (λ (x : Holding). grabbed-by x i) (sym is) ∙ g)
+
+    pub offer-refused : grabbed-by h i ≡ false → offer us ts p u k r ≡ done ts (to p (TVcf token-not-possessed u k (status (state ts k) i)) ∷ [])
+    unfolding offer-by
+    offer-refused g = offer-is false g
+
+    module _ (g : grabbed-by h i ≡ true) where
+      pub offer-given : (j : ℕ) → find (us .ids) r ≡ At j → offer us ts p u k r ≡ done (set-token ts k (Giving i j)) (to (link us j) (TVin u k r) ∷ [])
+      unfolding offer-by to-place
+      offer-given j e = offer-is true g ∙ ap to-place e
+
+      pub offer-unknown : find (us .ids) r ≡ Nowhere → offer us ts p u k r ≡ done ts (to p (TVcf no-such-user u k (status (state ts k) i)) ∷ [])
+      unfolding offer-by to-place
+      offer-unknown e = offer-is true g ∙ ap to-place e
+
+-- ---- TVrs
+module _ (us : Users) (ts : Tokens) (p n u k i : ℕ) (here : attached us p u ≡ At i) {h : Holding} (is : h ≡ state ts k) where
+  pub answer-heard : offered-to h i ≡ true → (next : Holding) → next ≡ answered (eqb n successful) h i → done (set-token ts k next) (informed us n k h next) ≡ answer us ts p n u k
+  unfolding answer
+  answer-heard o next e = sym (from-at us p u _ i here ∙ rw (← is, o, e) refl)
+
+  pub answer-unheard : offered-to h i ≡ false → answer us ts p n u k ≡ ignored
+  unfolding answer
+  answer-unheard o = from-at us p u _ i here ∙ rw (← is, o) refl
+
+-- nobody is told where nobody was giving
+pub silent : (us : Users) (n k : ℕ) (h after : Holding) → OneOf (0 ∷ 1 ∷ 2 ∷ 4 ∷ []) (tagOf the-type h) → informed us n k h after ≡ []
+unfolding informed
+silent us n k Free after e = refl
+silent us n k (Grabbed g) after e = refl
+silent us n k (Inhibited is) after e = refl
+silent us n k (Giving g r) after e = absurd (miss (0 ∷ 1 ∷ 2 ∷ 4 ∷ []) 3 tt e)
+silent us n k (Given r) after e = refl

@@ -1,0 +1,3 @@
+-- Deciding what comes of a request about a token.
+pub mod Asking
+pub mod Deciding

@@ -1,0 +1,267 @@
+// What comes of a request about a token, decided on the columns as they are: nothing is stored yet, and nothing sent.
+ghost use mathlib.Core.Path.{_≡_};
+ghost use mathlib.Core.Bool.{true, false};
+ghost use lib.ListN.{getD};
+ghost use Rattle.places.specs.Places.{At, Nowhere};
+ghost use Rattle.records.specs.Records.{wire};
+ghost use Rattle.records.specs.Confirms.{confirm as confirmOf};
+ghost use Rattle.domain.specs.Tokens.{turnedOf, status as statusOf};
+ghost use Rattle.domain.specs.Tables.{Tokens, users-of, attached, at-limit, is-free, state, set-token};
+ghost use Rattle.domain.specs.Passing.{turn as turnOf, offer as offerOf, answer as answerOf, informed};
+ghost use Rattle.domain.specs.Effects.{done};
+ghost use Rattle.deeds.specs.Deeds.{Does, asked};
+use domain::numbers::Result;
+use domain::token::Holding;
+use domain::token::Turned;
+use records::compose::Confirm;
+
+// A place that is nowhere.
+pub const NOWHERE: u8 = 64;
+
+// What is asked for: the token for one user alone, or together with others; its end; that it goes to a user; and what that user answers.
+pub enum Ask {
+    Grab,
+    Inhibit,
+    Release,
+    Offer(u16),
+    Answer(u8),
+}
+
+// The request is ignored, or the token stays as it is, or turns to a state.
+pub enum Fate {
+    Ignored,
+    Stays,
+    Turns(Holding),
+}
+
+// What is done: what becomes of the token, and whether a connection is told, with the octets of its message.
+pub struct Deed {
+    pub fate: Fate,
+    pub told: bool,
+    pub q: u8,
+    pub m: [u8; 7],
+}
+
+// The place of u, who must be attached on p; 64 is nowhere.
+pub fn asker(names: &[u16; 64], homes: &[u8; 64], p: u8, u: u16) -> u8
+    ensures { λ r. ⌜ (r ≡ 64 → attached (users-of (now (names .entry)) (now (homes .entry))) p u ≡ Nowhere)
+        × ((r ≡ 64 → ⊥) → attached (users-of (now (names .entry)) (now (homes .entry))) p u ≡ At r) ⌝ }
+{
+    let at = tables::users::attached(names, homes, p, u);
+    if at < names[..].len() {
+        return at as u8;
+    }
+    NOWHERE
+}
+
+// The token limit is reached.
+fn full(limit: u8, keys: &[u16; 64]) -> bool
+    ensures { λ r. ⌜ r ≡ at-limit limit (now (keys .entry)) ⌝ }
+{
+    let most = limit as usize;
+    most <= places::columns::used(keys)
+}
+
+// Where the token is free, whether the limit is reached: the table is counted for no other.
+fn full_for(h: Holding, limit: u8, keys: &[u16; 64]) -> bool
+    ensures { λ r. ⌜ (is-free h ≡ true → r ≡ at-limit limit (now (keys .entry))) ⌝ }
+{
+    if states::token::free(h) {
+        return full(limit, keys);
+    }
+    false
+}
+
+// The id of the user at a place, and its connection; 0 and 16 where there is no such place.
+fn name_at(names: &[u16; 64], j: u8) -> u16
+    ensures { λ r. ⌜ r ≡ getD (now (names .entry)) j 0 ⌝ }
+{
+    let s = &names[..];
+    let i = j as usize;
+    if i < s.len() {
+        return s[i];
+    }
+    0
+}
+
+fn link_at(homes: &[u8; 64], j: u8) -> u8
+    ensures { λ r. ⌜ r ≡ getD (now (homes .entry)) j 16 ⌝ }
+{
+    let s = &homes[..];
+    let i = j as usize;
+    if i < s.len() {
+        return s[i];
+    }
+    16
+}
+
+// The octets of a confirm, with the status of h for the user at place i.
+fn confirm(kind: Confirm, result: u8, user: u16, token: u16, h: Holding, i: u8) -> [u8; 7]
+    ensures { λ r. ⌜ r ≡ wire (confirmOf kind result user token (statusOf h i)) ⌝ }
+{
+    let status = states::numbers::status_number(states::token::status(h, i));
+    records::compose::token_confirm(kind, result, user, token, status)
+}
+
+// A deed of which nobody is told.
+fn quiet(fate: Fate) -> Deed
+    ensures { λ r. ⌜ (r .fate ≡ fate) × (r .told ≡ false) ⌝ }
+{
+    Deed {
+        fate: fate,
+        told: false,
+        q: 0,
+        m: [0; 7],
+    }
+}
+
+// What a request by u, at place i, makes of token k in state h is confirmed to p.
+fn turned(kind: Confirm, p: u8, u: u16, i: u8, k: u16, h: Holding, t: Turned) -> Deed
+    ensures { λ r. ⌜ ((ts : Tokens) → h ≡ state ts k → Does ts k r (turnOf ts p u i k (confirmOf kind) (turnedOf t))) ⌝ }
+{
+    match t {
+        Turned::Fails(why) => {
+            let result = states::numbers::result_number(why);
+            Deed {
+                fate: Fate::Stays,
+                told: true,
+                q: p,
+                m: confirm(kind, result, u, k, h, i),
+            }
+        }
+        Turned::Turns(after) => Deed {
+            fate: Fate::Turns(after),
+            told: true,
+            q: p,
+            m: confirm(kind, 0, u, k, after, i),
+        },
+    }
+}
+
+// TVrq by u, at place i and attached on p, for token k in state h: it is giving if u has grabbed it and the recipient is attached.
+fn offered(
+    names: &[u16; 64],
+    homes: &[u8; 64],
+    p: u8,
+    u: u16,
+    i: u8,
+    k: u16,
+    h: Holding,
+    recipient: u16,
+) -> Deed
+    requires { ⌜ attached (users-of (now names) (now homes)) p u ≡ At i ⌝ }
+    ensures { λ r. ⌜ ((ts : Tokens) → h ≡ state ts k → Does ts k r (offerOf (users-of (now (names .entry)) (now (homes .entry))) ts p u k recipient)) ⌝ }
+{
+    if states::token::has_grabbed(h, i) {
+        let at = places::columns::find(names, recipient);
+        if at < 64 {
+            let j = at as u8;
+            return Deed {
+                fate: Fate::Turns(Holding::Giving(i, j)),
+                told: true,
+                q: link_at(homes, j),
+                m: records::compose::give_indication(u, k, recipient),
+            };
+        }
+        return turned(
+            Confirm::Give,
+            p,
+            u,
+            i,
+            k,
+            h,
+            Turned::Fails(Result::NoSuchUser),
+        );
+    }
+    turned(
+        Confirm::Give,
+        p,
+        u,
+        i,
+        k,
+        h,
+        Turned::Fails(Result::TokenNotPossessed),
+    )
+}
+
+// Token k, which was in state h, is then in another; a giver is told the result.
+fn concluded(
+    names: &[u16; 64],
+    homes: &[u8; 64],
+    result: u8,
+    k: u16,
+    h: Holding,
+    next: Holding,
+) -> Deed
+    ensures { λ r. ⌜ ((ts : Tokens) → Does ts k r (done (set-token ts k next) (informed (users-of (now (names .entry)) (now (homes .entry))) result k h next))) ⌝ }
+{
+    if let Holding::Giving(g, _) = h {
+        return Deed {
+            fate: Fate::Turns(next),
+            told: true,
+            q: link_at(homes, g),
+            m: confirm(Confirm::Give, result, name_at(names, g), k, next, g),
+        };
+    }
+    quiet(Fate::Turns(next))
+}
+
+// TVrs by the user at place i for token k in state h: any result but 0 declines.
+fn answered(
+    names: &[u16; 64],
+    homes: &[u8; 64],
+    p: u8,
+    u: u16,
+    i: u8,
+    k: u16,
+    h: Holding,
+    result: u8,
+) -> Deed
+    requires { ⌜ attached (users-of (now names) (now homes)) p u ≡ At i ⌝ }
+    ensures { λ r. ⌜ ((ts : Tokens) → h ≡ state ts k → Does ts k r (answerOf (users-of (now (names .entry)) (now (homes .entry))) ts p result u k)) ⌝ }
+{
+    if states::token::is_offered(h, i) {
+        let next = states::token::answered(result == 0, h, i);
+        return concluded(names, homes, result, k, h, next);
+    }
+    quiet(Fate::Ignored)
+}
+
+// What comes of a request by u on p for token k in state h.
+pub fn decide(
+    names: &[u16; 64],
+    homes: &[u8; 64],
+    keys: &[u16; 64],
+    limit: u8,
+    p: u8,
+    u: u16,
+    k: u16,
+    h: Holding,
+    ask: Ask,
+) -> Deed
+    ensures { λ r. ⌜ ((ts : Tokens) → h ≡ state ts k
+        → Does ts k r (asked ask (at-limit limit (now (keys .entry))) (users-of (now (names .entry)) (now (homes .entry))) ts p u k)) ⌝ }
+{
+    let i = asker(names, homes, p, u);
+    if i == NOWHERE {
+        return quiet(Fate::Ignored);
+    }
+    match ask {
+        Ask::Grab => {
+            let full = full_for(h, limit, keys);
+            let t = states::token::grab(full, h, i);
+            turned(Confirm::Grab, p, u, i, k, h, t)
+        }
+        Ask::Inhibit => {
+            let full = full_for(h, limit, keys);
+            let t = states::token::inhibit(full, h, i);
+            turned(Confirm::Inhibit, p, u, i, k, h, t)
+        }
+        Ask::Release => {
+            let t = states::token::release(h, i);
+            turned(Confirm::Release, p, u, i, k, h, t)
+        }
+        Ask::Offer(recipient) => offered(names, homes, p, u, i, k, h, recipient),
+        Ask::Answer(result) => answered(names, homes, p, u, i, k, h, result),
+    }
+}
