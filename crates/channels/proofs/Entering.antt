@@ -19,12 +19,8 @@ use Rattle.domain.specs.Cells.{no-channel, kind, channel-of, with-marks}
 use Rattle.domain.specs.Tables.{Users, Channels, attached, add-user, channel, add-channel, set-channel}
 use Rattle.domain.specs.Effects.{Effect, ignored, done, Settled, settled, sends, settle, from}
 use Rattle.domain.specs.Channels.{attach, may, join-at, join-new, join}
-use Rattle.channels.proofs.Sending.{did-nothing, did-refuse, did}
-use Rattle.channels.proofs.Initiators.{from-at, from-nobody}
-
--- a message went to p, or there was no room for it: reply n, with l octets
-abbrev pub Told : (p : ℕ) (m : Message) (n l : ℕ) (out o : List ℕ) → Type 0
-Told p m n l out o = settled {A = Unit {0}} n l tt o ≡ sends 0 tt tt (to p m ∷ []) out
+use Rattle.answers.proofs.Sending.{Told, did-nothing, did-refuse, did}
+use Rattle.answers.proofs.Initiators.{from-at, from-nobody}
 
 -- ---- AUrq
 module _ (new : ℕ) (us : Users) (cs : Channels) (p n l : ℕ) (out o : List ℕ) where

@@ -1,6 +1,3 @@
--- records sent whole or not at all; the initiator's place
-pub mod Sending
-pub mod Initiators
 -- AUrq and CJrq by cases
 pub mod Entering
 -- CLrq

@@ -3,14 +3,13 @@ use mathlib.Core.Path.{_≡_, refl, sym, ap, _∙_}
 use mathlib.Core.Bool.{Bool, true, false, _&&_}
 use mathlib.Core.List.{List}
 use mathlib.Core.Option.{none, some}
-use Prim.Native.Nat.{ℕ, _+_, _≤_, _<_, min}
-use native.Mathlib.Nat.{min-eq-left, min-eq-right, min-le-right}
+use Prim.Native.Nat.{ℕ, _+_, _≤_, _<_}
 use native.Mathlib.Numerals.{add-one}
 use native.Mathlib.Omega.{arith}
-use borrow.Author.Tests.{eq-eqb, ne-eqb, ltb-true, ltb-false}
-use lib.Dec.{eqb, ltb}
-use lib.ListN.{length, getD, take, drop, drop-of-length-le, length-take}
-use lib.Seq.{drop-cons, take-all}
+use borrow.Author.Tests.{eq-eqb, ne-eqb}
+use lib.Dec.{eqb}
+use lib.ListN.{length, getD, take, drop, drop-of-length-le}
+use lib.Seq.{drop-cons}
 use Rattle.places.specs.Sets.{if_then_else_, any, member, has, without, links}
 use Rattle.places.specs.Places.{Place, At, Nowhere, find, load}
 use Rattle.places.proofs.Marks.{has-none}
@@ -20,24 +19,6 @@ use Rattle.domain.specs.Tables.{Channels, sweep-channels, lapses, marked}
 use Rattle.domain.specs.Effects.{settled, settle}
 use Rattle.domain.specs.Channels.{joined, left, leave-channels}
 use Rattle.domain.proofs.Effects.{sends-none}
-
--- ---- a list's first ids
-pub take-least : (xs : List ℕ) (count n r : ℕ) → n ≡ length xs → r ≡ min count n → take r xs ≡ take count xs
-take-least xs count n r l e = go (ltb count n) refl
-  where
-    go : (b : Bool) → ltb count n ≡ b → take r xs ≡ take count xs
-    go true q = ap (λ (k : ℕ). take k xs) (e ∙ min-eq-left (omega (arith, ltb-true count n q)))
-    go false q =
-        ap (λ (k : ℕ). take k xs) (e ∙ min-eq-right (ltb-false count n q))
-        ∙ take-all n xs (omega arith) ∙ sym (take-all count xs (omega (arith, ltb-false count n q)))
-
-pub least-le : (count n r : ℕ) → r ≡ min count n → r ≤ n
-least-le count n r e = omega (arith, min-le-right count n)
-
-pub take-count : (xs : List ℕ) (n r : ℕ) → n ≡ length xs → r ≤ n → r ≡ length (take r xs)
-take-count xs n r e h =
-    let l : r ≤ length xs = omega arith in
-    sym (length-take r xs ∙ min-eq-left l)
 
 -- ---- had p joined
 module _ (cs : Channels) (p c : ℕ) where

@@ -14,14 +14,12 @@ ghost use Rattle.domain.specs.Cells.{no-channel, kind, channel-of};
 ghost use Rattle.domain.specs.Tables.{Users, Channels, users-of, channels-of, channel-cells, channel, add-channel, sweep-channels, lapses, at-limit, grant};
 ghost use Rattle.domain.specs.Effects.{done, settle, answered};
 ghost use Rattle.domain.specs.Channels.{attach as attachOf, join as joinOf, join-at, join-new, may, joined as joinedIn, left, leave-channels as leaveOf};
+use answers::confirms;
 use domain::answer::Answer;
 use domain::channel::Channel;
 use domain::channel::Kind;
 use domain::numbers::Reply;
 use domain::numbers::Result;
-
-pub mod answers;
-pub mod confirms;
 
 // AUrq on p.
 pub fn attach(

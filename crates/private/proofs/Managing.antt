@@ -18,9 +18,8 @@ use Rattle.domain.specs.Cells.{no-channel, kind, channel-of}
 use Rattle.domain.specs.Tables.{Users, Channels, attached, hosts, channel, add-channel, end-channel}
 use Rattle.domain.specs.Effects.{Effect, ignored, done, Settled, settled, sends, settle, from}
 use Rattle.domain.specs.Channels.{convene, owned, manages, disband}
-use Rattle.channels.proofs.Sending.{did-nothing, did-refuse, did}
-use Rattle.channels.proofs.Initiators.{from-at, from-nobody}
-use Rattle.channels.proofs.Entering.{Told}
+use Rattle.answers.proofs.Sending.{Told, did-nothing, did-refuse, did}
+use Rattle.answers.proofs.Initiators.{from-at, from-nobody}
 
 -- ---- CCrq
 module _ (new : ℕ) (us : Users) (cs : Channels) (p u : ℕ) (out : List ℕ) where

@@ -1,1 +1,1 @@
-pub mod Sieve
+pub mod Changes

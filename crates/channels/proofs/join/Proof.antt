@@ -1,4 +1,4 @@
-use Rattle.channels.proofs.Initiators.{placed, unplaced}
+use Rattle.answers.proofs.Initiators.{placed, unplaced}
 use Rattle.places.proofs.Answers.{find-at, find-nowhere}
 use Rattle.channels.proofs.Entering.{join-nobody, join-found, join-unfound}
 use borrow.Author.Needs.{needs}

@@ -1,4 +1,5 @@
-use Rattle.channels.proofs.Parting.{least-le, take-count, take-least, leave-done, leave-ignored}
+use Rattle.answers.proofs.Firsts.{least-le, take-count, take-least}
+use Rattle.channels.proofs.Parting.{leave-done, leave-ignored}
 use borrow.Author.Needs.{needs}
 use mathlib.Core.Path.{sym, _∙_}
 use Rattle.channels.proofs.leave_channels.Statement.{statement}

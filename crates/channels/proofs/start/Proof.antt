@@ -1,7 +1,7 @@
 use mathlib.Core.Path.{sym, ap, _∙_}
 use Rattle.domain.specs.Cells.{channel-of}
 use Rattle.domain.specs.Tables.{add-channel}
-use Rattle.channels.proofs.Sending.{did-refuse, did}
+use Rattle.answers.proofs.Sending.{did-refuse, did}
 use borrow.Author.Needs.{needs}
 use Rattle.channels.proofs.start.Statement.{statement}
 use Rattle.channels.proofs.start.Tie as tie

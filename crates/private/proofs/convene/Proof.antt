@@ -1,4 +1,4 @@
-use Rattle.channels.proofs.Initiators.{placed, unplaced}
+use Rattle.answers.proofs.Initiators.{placed, unplaced}
 use mathlib.Core.Path.{sym, _∙_}
 use Rattle.domain.specs.Tables.{grant}
 use Rattle.private.proofs.Managing.{convene-nobody, convene-full, convene-refused, convene-done}

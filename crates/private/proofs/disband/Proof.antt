@@ -1,4 +1,4 @@
-use Rattle.channels.proofs.Sending.{many-sent, whole-sends}
+use Rattle.answers.proofs.Sending.{many-sent, whole-sends}
 use mathlib.Core.Path.{sym, _∙_}
 use Rattle.private.proofs.Managing.{disband-ignored, disband-refused, disband-done}
 use borrow.Author.Needs.{needs}

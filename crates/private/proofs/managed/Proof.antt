@@ -1,4 +1,4 @@
-use Rattle.channels.proofs.Initiators.{placed, unplaced}
+use Rattle.answers.proofs.Initiators.{placed, unplaced}
 use native.Mathlib.Omega.{arith}
 use Rattle.places.proofs.Answers.{find-at, find-nowhere}
 use Rattle.private.proofs.Managing.{manages-nobody, manages-nowhere, manages-yes, manages-no}

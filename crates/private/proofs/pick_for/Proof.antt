@@ -1,5 +1,5 @@
 use mathlib.Core.Path.{refl}
-use Rattle.private.specs.Sieve.{picks}
+use Rattle.private.specs.Changes.{picks}
 use borrow.Author.Needs.{needs}
 use Rattle.private.proofs.pick_for.Statement.{statement}
 use Rattle.private.proofs.pick_for.Tie as tie

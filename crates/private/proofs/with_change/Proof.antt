@@ -1,7 +1,7 @@
 use mathlib.Core.Path.{refl}
 use Rattle.domain.specs.Cells.{with-guests}
 use Rattle.domain.specs.Channels.{private}
-use Rattle.private.specs.Sieve.{changed}
+use Rattle.private.specs.Changes.{changed}
 use borrow.Author.Needs.{needs}
 use Rattle.private.proofs.with_change.Statement.{statement}
 use Rattle.private.proofs.with_change.Tie as tie
