@@ -12,7 +12,7 @@ use Rattle.domain.specs.declared.Limits.{Limits}
 use Rattle.domain.specs.Tables.{Users, Channels, Tokens, Domain, put-channels, put-tokens, put-both, grant}
 use Rattle.domain.specs.Effects.{Effect, ignored, done, within, Settled, settled, sends, settle}
 use Rattle.domain.specs.Events.{act}
-use Rattle.requests.specs.Requests.{joined}
+use Rattle.requests.specs.Joined.{joined}
 
 -- the same answer, of tables that hold others too
 module _ {A B : Type 0} (put : A → B) where

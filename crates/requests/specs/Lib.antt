@@ -1,1 +1,1 @@
-pub mod Requests
+pub mod Joined

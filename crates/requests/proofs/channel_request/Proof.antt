@@ -2,7 +2,7 @@ use mathlib.Core.Path.{refl}
 use borrow.Author.Tests.{ne-eqb}
 use lib.ListN.{take}
 use Rattle.domain.specs.Events.{act, channels-full}
-use Rattle.requests.specs.Requests.{channel-request}
+use Rattle.understanding.specs.Requests.{channel-request}
 use Rattle.requests.proofs.Requesting.{on-channels}
 use borrow.Author.Needs.{needs}
 use Rattle.requests.proofs.channel_request.Statement.{statement}

@@ -1,5 +1,5 @@
 use borrow.Author.Tests.{lt-ltb, le-ltb}
-use Rattle.requests.specs.Requests.{request}
+use Rattle.understanding.specs.Requests.{request}
 use borrow.Author.Needs.{needs}
 use Rattle.requests.proofs.request.Statement.{statement}
 use Rattle.requests.proofs.request.Tie as tie

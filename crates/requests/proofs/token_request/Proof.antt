@@ -3,7 +3,7 @@ use Prim.Native.Nat.{_%_}
 use native.Mathlib.Omega.{arith}
 use borrow.Author.Tests.{ne-eqb}
 use Rattle.domain.specs.Events.{act, tokens-full}
-use Rattle.requests.specs.Requests.{token-request}
+use Rattle.understanding.specs.Requests.{token-request}
 use Rattle.requests.proofs.Requesting.{on-tokens}
 use borrow.Author.Needs.{needs}
 use Rattle.requests.proofs.token_request.Statement.{statement}
