@@ -1,4 +1,3 @@
--- records sent whole or not at all; the initiator's place; a list's first ids
+-- records sent whole or not at all; the initiator's place
 pub mod Sending
 pub mod Initiators
-pub mod Firsts

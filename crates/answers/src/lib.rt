@@ -2,7 +2,6 @@
 pub mod confirms;
 
 ghost use mathlib.Core.Path.{_≡_};
-ghost use Prim.Native.Nat.{min};
 ghost use lib.Dec.{eqb};
 ghost use Rattle.records.specs.Records.{framed};
 ghost use Rattle.records.specs.Out.{guarded, told};
@@ -28,13 +27,6 @@ pub fn initiator(names: &[u16; 64], homes: &[u8; 64], p: u8, u: u16) -> usize
     let all = &names[..];
     let i = tables::users::attached(names, homes, p, u);
     if i < all.len() { i } else { 64 }
-}
-
-// Of n listed ids the first `count`: how many there are.
-pub fn at_most(count: usize, n: usize) -> usize
-    ensures { λ r. ⌜ r ≡ min count n ⌝ }
-{
-    if count < n { count } else { n }
 }
 
 // A request is ignored.

@@ -8,7 +8,7 @@ ghost use Rattle.domain.specs.Tables.{Domain as Tables};
 ghost use Rattle.domain.specs.Effects.{settled};
 ghost use Rattle.domain.specs.Events.{opens, loses, hears};
 ghost use Rattle.reception.specs.Reception.{begun, after, audience};
-ghost use Rattle.provider.specs.Provider.{understood};
+ghost use Rattle.understanding.specs.Understood.{understood};
 ghost use Rattle.bridge.specs.Held.{domain-in};
 use edge::Answered;
 

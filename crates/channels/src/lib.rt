@@ -364,7 +364,7 @@ pub fn leave_channels(
         (now (out .entry)) ⌝ }
 {
     let all = &listed[..];
-    let n = answers::at_most(count, all.len());
+    let n = places::columns::at_most(count, all.len());
     let list = &all[..n];
     if joined_any(ids, roles, chairs, guests, marks, p, list) {
         leave_all(ids, roles, chairs, guests, marks, p, list);

@@ -4,3 +4,4 @@ pub mod Opened
 pub mod Listed
 pub mod invariant
 pub mod holders
+pub mod Requesting

@@ -10,3 +10,4 @@ pub mod Events
 pub mod Good
 pub mod History
 pub mod Claims
+pub mod Joined

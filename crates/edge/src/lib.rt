@@ -8,7 +8,7 @@ ghost use Rattle.domain.specs.Numbers.{replyNumber};
 ghost use Rattle.domain.specs.Effects.{settled};
 ghost use Rattle.domain.specs.Events.{opens, loses, hears};
 ghost use Rattle.reception.specs.Reception.{limited, begun, after, audience as audienceOf};
-ghost use Rattle.provider.specs.Provider.{understood};
+ghost use Rattle.understanding.specs.Understood.{understood};
 use domain::Limits;
 use domain::answer::Answer;
 use states::numbers::reply_number;

@@ -113,7 +113,7 @@ fn chosen(
         × (r .count ≤ 64) ⌝ }
 {
     let all = &listed[..];
-    let m = answers::at_most(count, 64);
+    let m = places::columns::at_most(count, 64);
     let mut t = Taken { count: 0, seats: 0 };
     let mut i = 0;
     while i < m {

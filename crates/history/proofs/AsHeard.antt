@@ -17,7 +17,7 @@ use Rattle.domain.specs.Tables.{Domain}
 use Rattle.domain.specs.Events.{Reading, reads, refuses, hears, stays, sends, complaint, answers, step-with, step}
 use Rattle.domain.specs.Claims.{formed}
 use Rattle.domain.proofs.invariant.Sound.{is-between}
-use Rattle.provider.specs.Provider.{number-in, read-as, understood}
+use Rattle.understanding.specs.Understood.{number-in, read-as, understood}
 use Rattle.provider.proofs.Replies.{Fair, understood-fair}
 use Rattle.history.specs.Recorded.{Call, opening, losing, message, read-call}
 use Rattle.history.specs.Served.{event, Bytewise}

@@ -14,7 +14,7 @@ use Rattle.domain.specs.Effects.{Settled, settled, answered}
 use Rattle.domain.specs.Events.{opens, loses, hears}
 use Rattle.reception.specs.declared.starting.Started.{Started}
 use Rattle.reception.specs.Reception.{after, limited, begun, audience}
-use Rattle.provider.specs.Provider.{understood}
+use Rattle.understanding.specs.Understood.{understood}
 use Rattle.provider.proofs.Replies.{same-reply, one-outcome}
 
 -- the columns that are lent

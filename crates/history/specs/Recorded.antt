@@ -10,7 +10,7 @@ use Rattle.messages.specs.Named.{Message, heard}
 use Rattle.records.specs.Records.{Sent, to}
 use Rattle.domain.specs.Events.{Event, opens, loses, hears}
 use Rattle.domain.specs.History.{Entry, History}
-use Rattle.provider.specs.Provider.{read-as}
+use Rattle.understanding.specs.Understood.{read-as}
 
 -- "Events: open connection p, lose connection p, message on p", a message with its octets
 pub data Call : Type 0 where

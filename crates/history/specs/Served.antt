@@ -9,7 +9,7 @@ use Rattle.domain.specs.Tables.{Domain}
 use Rattle.domain.specs.Effects.{Settled, answered}
 use Rattle.domain.specs.Events.{Event, opens, loses, hears}
 use Rattle.reception.specs.Reception.{begun, after}
-use Rattle.provider.specs.Provider.{understood}
+use Rattle.understanding.specs.Understood.{understood}
 use Rattle.history.specs.Recorded.{Call, opening, losing, message, Note, note}
 
 -- the event that `open`, `lose` and `message` promise to serve

@@ -1,7 +1,7 @@
 // Requests about tokens, on lent columns: TGrq, TIrq, TRrq, TVrq, TVrs, TPrq, TTrq. Each decides, refuses what has no room, then stores and sends.
 ghost use mathlib.Core.Path.{_≡_};
 ghost use mathlib.Core.List.{[], _∷_};
-ghost use Prim.Native.Nat.{_+_, _%_, _≤_};
+ghost use Prim.Native.Nat.{ℕ, _+_, _%_, _≤_};
 ghost use lib.Dec.{eqb};
 ghost use lib.ListN.{length};
 ghost use Rattle.places.specs.Sets.{if_then_else_};
@@ -9,15 +9,19 @@ ghost use Rattle.places.specs.Places.{find};
 ghost use Rattle.messages.specs.Named.{Message};
 ghost use Rattle.records.specs.Records.{to, tell as tellOf, wire};
 ghost use Rattle.domain.specs.Numbers.{replyNumber};
-ghost use Rattle.domain.specs.Tables.{Tokens, users-of, tokens-of, at-limit};
+ghost use Rattle.domain.specs.Tables.{Channels, Tokens, users-of, tokens-of, at-limit};
 ghost use Rattle.domain.specs.Effects.{Effect, settle, answered, done};
 ghost use Rattle.domain.specs.Passing.{take-token, share-token, drop-token, offer as offerOf, answer as answerOf, please as pleaseOf, test as testOf};
+ghost use Rattle.domain.specs.Events.{act};
+ghost use Rattle.domain.specs.Joined.{joined};
+ghost use Rattle.understanding.specs.Requests.{token-request};
 ghost use Rattle.tables.specs.Numbered.{place};
 ghost use Rattle.deeds.specs.Deeds.{Tells, Does, fated, asked};
 use deeds::Ask;
 use deeds::Deed;
 use deeds::Fate;
 use deeds::NOWHERE;
+use domain::Limits;
 use domain::answer::Answer;
 use domain::numbers::Reply;
 
@@ -392,5 +396,85 @@ fn tell(out: &mut [u8], mask: u16, m: &[u8]) -> Answer
     Answer {
         reply: Reply::Done,
         sent: total,
+    }
+}
+
+// Each of these requests, by its number.
+pub fn request(
+    limits: Limits,
+    names: &[u16; 64],
+    homes: &[u8; 64],
+    keys: &mut [u16; 64],
+    modes: &mut [u8; 64],
+    values: &mut [u64; 64],
+    p: u8,
+    number: u32,
+    first: u16,
+    second: u16,
+    third: u16,
+    out: &mut [u8],
+) -> Answer
+    ensures { λ r. ⌜ ((m : ℕ) (cs : Channels) (new : ℕ) → answered r (joined limits m (users-of (now (names .entry)) (now (homes .entry))) cs
+        (tokens-of (now (keys .exit)) (now (modes .exit)) (now (values .exit)))) (now (out .exit))
+        ≡ settle (joined limits m (users-of (now (names .entry)) (now (homes .entry))) cs (tokens-of (now (keys .entry)) (now (modes .entry)) (now (values .entry))))
+        (act new (joined limits m (users-of (now (names .entry)) (now (homes .entry))) cs (tokens-of (now (keys .entry)) (now (modes .entry)) (now (values .entry))))
+        p (token-request number first second third)) (now (out .entry))) ⌝ }
+{
+    let most = limits.tokens;
+    match number {
+        29 => grab(
+            names,
+            homes,
+            keys,
+            modes,
+            values,
+            most,
+            p,
+            first,
+            second,
+            out,
+        ),
+        31 => inhibit(
+            names,
+            homes,
+            keys,
+            modes,
+            values,
+            most,
+            p,
+            first,
+            second,
+            out,
+        ),
+        33 => offer(
+            names,
+            homes,
+            keys,
+            modes,
+            values,
+            p,
+            first,
+            second,
+            third,
+            out,
+        ),
+        35 => {
+            let result = (first % 16) as u8;
+            answer(
+                names,
+                homes,
+                keys,
+                modes,
+                values,
+                p,
+                result,
+                second,
+                third,
+                out,
+            )
+        }
+        37 => please(names, homes, keys, modes, values, p, first, second, out),
+        39 => release(names, homes, keys, modes, values, p, first, second, out),
+        _ => test(names, homes, keys, modes, values, p, first, second, out),
     }
 }

@@ -18,3 +18,4 @@ pub mod Answers
 pub mod Turns
 pub mod Sweeps
 pub mod Kept
+pub mod Firsts

@@ -2,7 +2,7 @@
 ghost use mathlib.Core.Path.{_≡_};
 ghost use mathlib.Core.Bool.{true, false};
 ghost use mathlib.Core.List.{[], _∷_};
-ghost use Prim.Native.Nat.{ℕ, _+_, _-_, _*_, _<_, _≤_};
+ghost use Prim.Native.Nat.{ℕ, _+_, _-_, _*_, _<_, _≤_, min};
 ghost use lib.Dec.{eqb};
 ghost use lib.ListN.{length, drop, getD};
 ghost use Rattle.places.specs.Sets.{if_then_else_, member as memberOf};
@@ -316,4 +316,11 @@ pub fn unused(ids: &[u16]) -> u16
         left -= 1;
     }
     x
+}
+
+// Of n listed ids the first `count`: how many there are.
+pub fn at_most(count: usize, n: usize) -> usize
+    ensures { λ r. ⌜ r ≡ min count n ⌝ }
+{
+    if count < n { count } else { n }
 }

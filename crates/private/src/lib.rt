@@ -1,24 +1,25 @@
 // Requests about private channels, on lent columns: CCrq, CDrq, CArq, CErq. Each decides, sends where there is room, then stores.
 ghost use mathlib.Core.Path.{_≡_};
 ghost use mathlib.Core.Bool.{true, false};
-ghost use mathlib.Core.List.{List, [], _∷_};
-ghost use Prim.Native.Nat.{ℕ, _+_, _≤_, _<_};
+ghost use mathlib.Core.List.{List};
+ghost use Prim.Native.Nat.{ℕ, _≤_, _<_};
 ghost use lib.Dec.{eqb};
-ghost use lib.ListN.{length, take, getD, set, replicate};
-ghost use Rattle.places.specs.Sets.{if_then_else_, with, seats};
-ghost use Rattle.records.specs.Records.{records as recordsOf};
-ghost use Rattle.records.specs.Out.{Puts, each-two};
+ghost use lib.ListN.{take};
+ghost use Rattle.places.specs.Sets.{with, seats};
 ghost use Rattle.domain.specs.Cells.{kind};
-ghost use Rattle.domain.specs.Tables.{Users, Channels, users-of, channels-of, channel, hosts as hostsOf, at-limit, grant};
+ghost use Rattle.domain.specs.Tables.{Channels, Tokens, users-of, channels-of, channel, hosts as hostsOf, at-limit, grant};
 ghost use Rattle.domain.specs.Numbers.{replyNumber};
-ghost use Rattle.domain.specs.Effects.{Effect, ignored as ignoredBy, settle, answered, sends};
-ghost use Rattle.domain.specs.Channels.{convene as conveneOf, owned, manages, disband as disbandOf, places as placesOf, own, admit as admitOf, expel as expelOf};
+ghost use Rattle.domain.specs.Effects.{Effect, ignored as ignoredBy, settle, answered};
+ghost use Rattle.domain.specs.Channels.{convene as conveneOf, owned, manages, disband as disbandOf, admit as admitOf, expel as expelOf};
+ghost use Rattle.domain.specs.Events.{act};
+ghost use Rattle.domain.specs.Joined.{joined};
+ghost use Rattle.understanding.specs.Requests.{private-request};
 ghost use Rattle.private.specs.Changes.{picks, changed, changes};
 use answers::confirms;
+use domain::Limits;
 use domain::answer::Answer;
 use domain::channel::Channel;
 use domain::channel::Kind;
-use domain::numbers::Reply;
 use domain::numbers::Result;
 use hearing::Pick;
 use hearing::Say;
@@ -300,4 +301,92 @@ pub fn expel(
         count,
         out,
     )
+}
+
+// Each of these requests, by its number.
+pub fn request(
+    limits: Limits,
+    names: &[u16; 64],
+    homes: &[u8; 64],
+    ids: &mut [u16; 128],
+    roles: &mut [u8; 128],
+    chairs: &mut [u8; 128],
+    guests: &mut [u64; 128],
+    marks: &mut [u16; 128],
+    p: u8,
+    number: u32,
+    first: u16,
+    second: u16,
+    listed: &[u16; 64],
+    count: usize,
+    out: &mut [u8],
+) -> Answer
+    ensures { λ r. ⌜ ((m : ℕ) (ts : Tokens) → answered r (joined limits m (users-of (now (names .entry)) (now (homes .entry)))
+        (channels-of (now (ids .exit)) (now (roles .exit)) (now (chairs .exit)) (now (guests .exit)) (now (marks .exit))) ts) (now (out .exit))
+        ≡ settle (joined limits m (users-of (now (names .entry)) (now (homes .entry))) (channels-of (now (ids .entry)) (now (roles .entry)) (now (chairs .entry)) (now (guests .entry)) (now (marks .entry))) ts)
+        (act (grant (channels-of (now (ids .entry)) (now (roles .entry)) (now (chairs .entry)) (now (guests .entry)) (now (marks .entry))))
+        (joined limits m (users-of (now (names .entry)) (now (homes .entry))) (channels-of (now (ids .entry)) (now (roles .entry)) (now (chairs .entry)) (now (guests .entry)) (now (marks .entry))) ts)
+        p (private-request number first second (take count (now (listed .entry))))) (now (out .entry))) ⌝ }
+{
+    match number {
+        17 => {
+            let most = limits.channels;
+            convene(
+                names,
+                homes,
+                ids,
+                roles,
+                chairs,
+                guests,
+                marks,
+                most,
+                p,
+                first,
+                out,
+            )
+        }
+        19 => disband(
+            names,
+            homes,
+            ids,
+            roles,
+            chairs,
+            guests,
+            marks,
+            p,
+            first,
+            second,
+            out,
+        ),
+        21 => admit(
+            names,
+            homes,
+            ids,
+            roles,
+            chairs,
+            guests,
+            marks,
+            p,
+            first,
+            second,
+            listed,
+            count,
+            out,
+        ),
+        _ => expel(
+            names,
+            homes,
+            ids,
+            roles,
+            chairs,
+            guests,
+            marks,
+            p,
+            first,
+            second,
+            listed,
+            count,
+            out,
+        ),
+    }
 }

@@ -1,4 +1,3 @@
--- Octets, replies and the room that they take.
-pub mod Understanding
+-- Replies, and the room that they take.
 pub mod Replies
 pub mod Room

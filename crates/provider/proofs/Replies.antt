@@ -23,9 +23,9 @@ use Rattle.domain.specs.Tables.{Domain, put-links, grant}
 use Rattle.domain.specs.Leaving.{close}
 use Rattle.domain.specs.Effects.{Effect, ignored, done, Settled, answered}
 use Rattle.domain.specs.Events.{Reading, reads, refuses, Event, opens, loses, hears, Outcome, stays, sends, ends, complaint, act, answers, step-with, step}
-use Rattle.provider.specs.Provider.{number-in, read-as, understood}
-use Rattle.provider.specs.Readings.{reply-for}
-use Rattle.provider.proofs.Understanding.{reply-for-is}
+use Rattle.understanding.specs.Understood.{number-in, read-as, understood}
+use Rattle.understanding.specs.Readings.{reply-for}
+use Rattle.understanding.proofs.Understanding.{reply-for-is}
 
 -- ---- events as they come: a message is what is understood of its octets
 abbrev pub Comes : Event → Type 0

@@ -36,7 +36,7 @@ use Rattle.domain.specs.Leaving.{leave, those-on, detach, close}
 use Rattle.domain.specs.Events.{Reading, reads, refuses, Event, opens, loses, hears, stays, sends, ends, complaint, act, answers, step-with, step, users-full, channels-full, tokens-full}
 use Rattle.farewell.proofs.Rounds.{in-order-length, each-length}
 use Rattle.farewell.proofs.Parts.{farewell-length}
-use Rattle.provider.specs.Provider.{number-in, read-as, understood}
+use Rattle.understanding.specs.Understood.{number-in, read-as, understood}
 use Rattle.reception.proofs.Rejecting.{rejection-length}
 use Rattle.provider.proofs.Replies.{Fair, understood-fair}
 

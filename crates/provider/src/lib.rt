@@ -1,6 +1,5 @@
 // The provider: every event on every connection, with any octets and any room for answers. The tables are lent as columns of numbers; any
 // contents are taken.
-mod reading;
 
 ghost use mathlib.Core.Path.{_≡_};
 ghost use Rattle.domain.specs.declared.Limits.{Limits};
@@ -8,7 +7,7 @@ ghost use Rattle.domain.specs.Tables.{domain-of};
 ghost use Rattle.domain.specs.Effects.{answered};
 ghost use Rattle.domain.specs.Events.{loses, hears};
 ghost use Rattle.reception.specs.Reception.{after};
-ghost use Rattle.provider.specs.Provider.{understood};
+ghost use Rattle.understanding.specs.Understood.{understood};
 use domain::answer::Answer;
 use domain::numbers::Reply;
 
@@ -88,7 +87,7 @@ pub fn message(
         };
     }
     let mut listed = [0u16; 64];
-    let u = reading::understand(octets, &mut listed);
+    let u = understanding::understand(octets, &mut listed);
     let reply = u.reply;
     if states::numbers::reply_number(reply) != 0 {
         return reception::refusing::refuse(p, reply, octets, out);

@@ -5,178 +5,11 @@ ghost use lib.ListN.{take};
 ghost use Rattle.domain.specs.Tables.{Channels, Tokens, users-of, channels-of, tokens-of, domain-of, grant};
 ghost use Rattle.domain.specs.Effects.{answered, settle};
 ghost use Rattle.domain.specs.Events.{act};
-ghost use Rattle.requests.specs.Requests.{joined, token-request, private-request, channel-request, user-request, request as requestOf};
+ghost use Rattle.understanding.specs.Requests.{channel-request, user-request, request as requestOf};
+ghost use Rattle.domain.specs.Joined.{joined};
 use domain::Limits;
 use domain::answer::Answer;
 use domain::numbers::Reply;
-
-// TGrq, TIrq, TVrq, TVrs, TPrq, TRrq, TTrq.
-fn token_request(
-    limits: Limits,
-    names: &[u16; 64],
-    homes: &[u8; 64],
-    keys: &mut [u16; 64],
-    modes: &mut [u8; 64],
-    values: &mut [u64; 64],
-    p: u8,
-    number: u32,
-    first: u16,
-    second: u16,
-    third: u16,
-    out: &mut [u8],
-) -> Answer
-    ensures { λ r. ⌜ ((m : ℕ) (cs : Channels) (new : ℕ) → answered r (joined limits m (users-of (now (names .entry)) (now (homes .entry))) cs
-        (tokens-of (now (keys .exit)) (now (modes .exit)) (now (values .exit)))) (now (out .exit))
-        ≡ settle (joined limits m (users-of (now (names .entry)) (now (homes .entry))) cs (tokens-of (now (keys .entry)) (now (modes .entry)) (now (values .entry))))
-        (act new (joined limits m (users-of (now (names .entry)) (now (homes .entry))) cs (tokens-of (now (keys .entry)) (now (modes .entry)) (now (values .entry))))
-        p (token-request number first second third)) (now (out .entry))) ⌝ }
-{
-    let most = limits.tokens;
-    match number {
-        29 => passing::grab(
-            names,
-            homes,
-            keys,
-            modes,
-            values,
-            most,
-            p,
-            first,
-            second,
-            out,
-        ),
-        31 => passing::inhibit(
-            names,
-            homes,
-            keys,
-            modes,
-            values,
-            most,
-            p,
-            first,
-            second,
-            out,
-        ),
-        33 => passing::offer(
-            names,
-            homes,
-            keys,
-            modes,
-            values,
-            p,
-            first,
-            second,
-            third,
-            out,
-        ),
-        35 => {
-            let result = (first % 16) as u8;
-            passing::answer(
-                names,
-                homes,
-                keys,
-                modes,
-                values,
-                p,
-                result,
-                second,
-                third,
-                out,
-            )
-        }
-        37 => passing::please(names, homes, keys, modes, values, p, first, second, out),
-        39 => passing::release(names, homes, keys, modes, values, p, first, second, out),
-        _ => passing::test(names, homes, keys, modes, values, p, first, second, out),
-    }
-}
-
-// CCrq, CDrq, CArq, CErq.
-fn private_request(
-    limits: Limits,
-    names: &[u16; 64],
-    homes: &[u8; 64],
-    ids: &mut [u16; 128],
-    roles: &mut [u8; 128],
-    chairs: &mut [u8; 128],
-    guests: &mut [u64; 128],
-    marks: &mut [u16; 128],
-    p: u8,
-    number: u32,
-    first: u16,
-    second: u16,
-    listed: &[u16; 64],
-    count: usize,
-    out: &mut [u8],
-) -> Answer
-    ensures { λ r. ⌜ ((m : ℕ) (ts : Tokens) → answered r (joined limits m (users-of (now (names .entry)) (now (homes .entry)))
-        (channels-of (now (ids .exit)) (now (roles .exit)) (now (chairs .exit)) (now (guests .exit)) (now (marks .exit))) ts) (now (out .exit))
-        ≡ settle (joined limits m (users-of (now (names .entry)) (now (homes .entry))) (channels-of (now (ids .entry)) (now (roles .entry)) (now (chairs .entry)) (now (guests .entry)) (now (marks .entry))) ts)
-        (act (grant (channels-of (now (ids .entry)) (now (roles .entry)) (now (chairs .entry)) (now (guests .entry)) (now (marks .entry))))
-        (joined limits m (users-of (now (names .entry)) (now (homes .entry))) (channels-of (now (ids .entry)) (now (roles .entry)) (now (chairs .entry)) (now (guests .entry)) (now (marks .entry))) ts)
-        p (private-request number first second (take count (now (listed .entry))))) (now (out .entry))) ⌝ }
-{
-    match number {
-        17 => {
-            let most = limits.channels;
-            private::convene(
-                names,
-                homes,
-                ids,
-                roles,
-                chairs,
-                guests,
-                marks,
-                most,
-                p,
-                first,
-                out,
-            )
-        }
-        19 => private::disband(
-            names,
-            homes,
-            ids,
-            roles,
-            chairs,
-            guests,
-            marks,
-            p,
-            first,
-            second,
-            out,
-        ),
-        21 => private::admit(
-            names,
-            homes,
-            ids,
-            roles,
-            chairs,
-            guests,
-            marks,
-            p,
-            first,
-            second,
-            listed,
-            count,
-            out,
-        ),
-        _ => private::expel(
-            names,
-            homes,
-            ids,
-            roles,
-            chairs,
-            guests,
-            marks,
-            p,
-            first,
-            second,
-            listed,
-            count,
-            out,
-        ),
-    }
-}
 
 // CJrq, CLrq, and the requests about private channels.
 fn channel_request(
@@ -222,7 +55,7 @@ fn channel_request(
             )
         }
         16 => channels::leave_channels(ids, roles, chairs, guests, marks, p, listed, count, out),
-        _ => private_request(
+        _ => private::request(
             limits,
             names,
             homes,
@@ -366,7 +199,7 @@ pub fn request(
         p (requestOf number first second third (take count (now (listed .entry))))) (now (out .entry)) ⌝ }
 {
     if 28 < number {
-        return token_request(
+        return passing::request(
             limits,
             names,
             homes,

@@ -37,7 +37,7 @@ use denote.Signature.{plain}
 use Rattle.domain.specs.Effects.{settled}
 use Rattle.domain.specs.Events.{hears}
 use Rattle.reception.specs.Reception.{after}
-use Rattle.provider.specs.Provider.{understood}
+use Rattle.understanding.specs.Understood.{understood}
 use Rattle.bridge.specs.Held.{domain-in}
 use Rattle.edge.specs.declared.Answered.{Answered}
 use Rattle.bridge.specs.declared.Domain.{Domain}

@@ -1,4 +1,4 @@
-use Rattle.answers.proofs.Firsts.{least-le, take-count, take-least}
+use Rattle.places.proofs.Firsts.{least-le, take-count, take-least}
 use Rattle.channels.proofs.Parting.{leave-done, leave-ignored}
 use borrow.Author.Needs.{needs}
 use mathlib.Core.Path.{sym, _∙_}

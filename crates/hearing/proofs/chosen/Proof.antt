@@ -5,7 +5,7 @@ use native.Mathlib.Omega.{arith}
 use lib.ListN.{length, take}
 use borrow.Author.Needs.{needs}
 use Rattle.domain.specs.Tables.{users-of}
-use Rattle.answers.proofs.Firsts.{least-le, take-least}
+use Rattle.places.proofs.Firsts.{least-le, take-least}
 use Rattle.hearing.specs.Sieve.{Takes}
 use Rattle.hearing.proofs.Sieving.{takes-none}
 use Rattle.hearing.proofs.chosen.Statement.{statement}

@@ -1,5 +1,5 @@
 use mathlib.Core.Path.{refl}
-use Rattle.answers.proofs.Firsts.{take-count}
+use Rattle.places.proofs.Firsts.{take-count}
 use Rattle.hearing.proofs.Hearing.{take-within}
 use Rattle.hearing.proofs.Telling.{mask-of, none-sieved, some-sieved, tells-nobody, tells-some}
 use borrow.Author.Needs.{needs}

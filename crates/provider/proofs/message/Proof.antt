@@ -1,8 +1,8 @@
 use mathlib.Core.Path.{sym, _∙_}
-use Rattle.provider.specs.Provider.{understood}
-use Rattle.provider.specs.Readings.{requested}
+use Rattle.understanding.specs.Understood.{understood}
+use Rattle.understanding.specs.Readings.{requested}
 use Rattle.reception.proofs.Turning.{not-true, not-false, shut-hears, open-served, open-refused}
-use Rattle.provider.proofs.Understanding.{refused-asks, requested-asks}
+use Rattle.understanding.proofs.Understanding.{refused-asks, requested-asks}
 use borrow.Author.Needs.{needs}
 use Rattle.provider.proofs.message.Statement.{statement}
 use Rattle.provider.proofs.message.Tie as tie

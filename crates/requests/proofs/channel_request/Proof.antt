@@ -2,8 +2,8 @@ use mathlib.Core.Path.{refl}
 use borrow.Author.Tests.{ne-eqb}
 use lib.ListN.{take}
 use Rattle.domain.specs.Events.{act, channels-full}
-use Rattle.requests.specs.Requests.{channel-request}
-use Rattle.requests.proofs.Requesting.{on-channels}
+use Rattle.understanding.specs.Requests.{channel-request}
+use Rattle.domain.proofs.Requesting.{on-channels}
 use borrow.Author.Needs.{needs}
 use Rattle.requests.proofs.channel_request.Statement.{statement}
 use Rattle.requests.proofs.channel_request.Tie as tie
@@ -14,8 +14,8 @@ join-requires c κs = search needs
 leave-channels-requires : tie.Need-leave-channels-requires
 leave-channels-requires c κs = search needs
 
-private-request-requires : tie.Need-private-request-requires
-private-request-requires c κs = search needs
+request-requires : tie.Need-request-requires
+request-requires c κs = search needs
 
 same-length : tie.Need-same-length
 same-length c = search needs
@@ -36,7 +36,7 @@ same-length-3 c = search needs
 
 returns-3 : tie.Need-returns-3
 unfolding channel-request
-returns-3 c = λ m ts. let n = c .before .before .before .before .before .before .before .before .before .before .before .args .number in rw (ne-eqb n 14 (c .before .before .before .before .before .before .before .before .before .match .rest .0 .1), ne-eqb n 16 (c .before .before .before .before .before .before .before .before .before .match .rest .1)) (c .before .before .private-request .ensures m ts)
+returns-3 c = λ m ts. let n = c .before .before .before .before .before .before .before .before .before .before .before .args .number in rw (ne-eqb n 14 (c .before .before .before .before .before .before .before .before .before .match .rest .0 .1), ne-eqb n 16 (c .before .before .before .before .before .before .before .before .before .match .rest .1)) (c .before .before .request .ensures m ts)
 
 pub channel-request-spec : {M : Type 1} → statement M
 channel-request-spec =
@@ -44,7 +44,7 @@ channel-request-spec =
     (tie.spec
     join-requires
     leave-channels-requires
-    private-request-requires
+    request-requires
     same-length
     returns
     same-length-2

@@ -1,18 +1,18 @@
 use borrow.Author.Tests.{lt-ltb, le-ltb}
-use Rattle.requests.specs.Requests.{request}
+use Rattle.understanding.specs.Requests.{request}
 use borrow.Author.Needs.{needs}
 use Rattle.requests.proofs.request.Statement.{statement}
 use Rattle.requests.proofs.request.Tie as tie
 
-token-request-requires : tie.Need-token-request-requires
-token-request-requires c κs = search needs
+request-requires : tie.Need-request-requires
+request-requires c κs = search needs
 
 same-length : tie.Need-same-length
 same-length c = search needs
 
 returns : tie.Need-returns
 unfolding request
-returns c = rw (lt-ltb 28 (c .before .before .before .before .before .before .before .before .before .before .before .args .number) (c .before .before .before .before .before .before .before .before .before .if1 .taken)) (c .before .before .token-request .ensures _ _ _)
+returns c = rw (lt-ltb 28 (c .before .before .before .before .before .before .before .before .before .before .before .args .number) (c .before .before .before .before .before .before .before .before .before .if1 .taken)) (c .before .before .request .ensures _ _ _)
 
 channel-request-requires : tie.Need-channel-request-requires
 channel-request-requires c κs = search needs
@@ -38,7 +38,7 @@ pub request-spec : {M : Type 1} → statement M
 request-spec =
     tie.close
     (tie.spec
-    token-request-requires
+    request-requires
     same-length
     returns
     channel-request-requires

@@ -6,8 +6,8 @@ use lib.ListN.{take}
 use Rattle.domain.specs.Effects.{settle}
 use Rattle.domain.specs.Events.{act, users-full, channels-full}
 use Rattle.domain.proofs.Effects.{sends-none}
-use Rattle.requests.specs.Requests.{user-request}
-use Rattle.requests.proofs.Requesting.{on-both}
+use Rattle.understanding.specs.Requests.{user-request}
+use Rattle.domain.proofs.Requesting.{on-both}
 use borrow.Author.Needs.{needs}
 use Rattle.requests.proofs.user_request.Statement.{statement}
 use Rattle.requests.proofs.user_request.Tie as tie

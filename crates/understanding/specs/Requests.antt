@@ -6,8 +6,6 @@ use mathlib.Core.List.{List}
 use lib.Dec.{eqb, ltb}
 use Rattle.places.specs.Sets.{if_then_else_}
 use Rattle.messages.specs.Named.{Message, EDrq, DPum, AUrq, DUrq, CJrq, CLrq, CCrq, CDrq, CArq, CErq, TGrq, TIrq, TVrq, TVrs, TPrq, TRrq, TTrq}
-use Rattle.domain.specs.declared.Limits.{Limits}
-use Rattle.domain.specs.Tables.{Users, Channels, Tokens, Domain}
 
 unfoldable pub token-request : (number a b c : ℕ) → Message
 token-request number a b c =
@@ -45,7 +43,3 @@ request number a b c ids =
     if ltb 28 number then token-request number a b c
     else if ltb 12 number then channel-request number a b ids
     else user-request number a ids
-
--- the domain of its tables
-abbrev pub joined : (l : Limits) (m : ℕ) (us : Users) (cs : Channels) (ts : Tokens) → Domain
-joined l m us cs ts = record { limits = l; links = m; users = us; channels = cs; tokens = ts }

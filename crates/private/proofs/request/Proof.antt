@@ -2,11 +2,11 @@ use mathlib.Core.Path.{refl}
 use borrow.Author.Tests.{ne-eqb}
 use lib.ListN.{take}
 use Rattle.domain.specs.Events.{act, channels-full}
-use Rattle.requests.specs.Requests.{private-request}
-use Rattle.requests.proofs.Requesting.{on-channels}
+use Rattle.understanding.specs.Requests.{private-request}
+use Rattle.domain.proofs.Requesting.{on-channels}
 use borrow.Author.Needs.{needs}
-use Rattle.requests.proofs.private_request.Statement.{statement}
-use Rattle.requests.proofs.private_request.Tie as tie
+use Rattle.private.proofs.request.Statement.{statement}
+use Rattle.private.proofs.request.Tie as tie
 
 convene-requires : tie.Need-convene-requires
 convene-requires c κs = search needs
@@ -51,8 +51,8 @@ returns-4 c = λ m ts. let a = c .before .before .before .before .before .before
     let r = c .before .before .before .before .before .before .before .before .before .match .rest in
     on-channels (a .limits) m _ _ ts _ (a .p) (private-request n (a .first) (a .second) (take (a .count) (a .listed .now))) _ _ (c .before .before .expel .ensures) (rw (ne-eqb n 17 (r .0 .0 .1), ne-eqb n 19 (r .0 .1), ne-eqb n 21 (r .1)) refl)
 
-pub private-request-spec : {M : Type 1} → statement M
-private-request-spec =
+pub request-spec : {M : Type 1} → statement M
+request-spec =
     tie.close
     (tie.spec
     convene-requires

@@ -11,9 +11,9 @@ use Rattle.reader.specs.declared.Decoded.{Decoded}
 use Rattle.domain.specs.Numbers.{replyNumber}
 use Rattle.domain.specs.Tables.{Domain}
 use Rattle.domain.specs.Events.{Outcome, act, answers, ends, sends, complaint}
-use Rattle.requests.specs.Requests.{request}
-use Rattle.provider.specs.declared.reading.Understood.{Understood}
-use Rattle.provider.specs.Provider.{understood}
+use Rattle.understanding.specs.Requests.{request}
+use Rattle.understanding.specs.declared.Understood.{Understood}
+use Rattle.understanding.specs.Understood.{understood}
 
 -- the reply of a codec's refusal
 unfoldable pub reply-for : ℕ → ℕ

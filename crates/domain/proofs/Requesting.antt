@@ -8,11 +8,11 @@ use lib.ListN.{length, drop}
 use Rattle.places.specs.Sets.{if_then_else_}
 use Rattle.messages.specs.Named.{Message}
 use Rattle.records.specs.Records.{Sent, records}
 use Rattle.domain.specs.declared.Limits.{Limits}
 use Rattle.domain.specs.Tables.{Users, Channels, Tokens, Domain, put-channels, put-tokens, put-both, grant}
 use Rattle.domain.specs.Effects.{Effect, ignored, done, within, Settled, settled, sends, settle}
 use Rattle.domain.specs.Events.{act}
-use Rattle.requests.specs.Requests.{joined}
+use Rattle.domain.specs.Joined.{joined}
 
 -- the same answer, of tables that hold others too
 module _ {A B : Type 0} (put : A → B) where

@@ -1,8 +1,8 @@
 use mathlib.Core.Path.{refl}
 use borrow.Author.Tests.{ne-eqb}
-use Rattle.provider.specs.Readings.{reply-for}
-use Rattle.provider.proofs.reading.reply_of.Statement.{statement}
-use Rattle.provider.proofs.reading.reply_of.Tie as tie
+use Rattle.understanding.specs.Readings.{reply-for}
+use Rattle.understanding.proofs.reply_of.Statement.{statement}
+use Rattle.understanding.proofs.reply_of.Tie as tie
 
 returns : tie.Need-returns
 unfolding reply-for

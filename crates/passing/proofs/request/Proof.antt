@@ -3,11 +3,11 @@ use Prim.Native.Nat.{_%_}
 use native.Mathlib.Omega.{arith}
 use borrow.Author.Tests.{ne-eqb}
 use Rattle.domain.specs.Events.{act, tokens-full}
-use Rattle.requests.specs.Requests.{token-request}
-use Rattle.requests.proofs.Requesting.{on-tokens}
+use Rattle.understanding.specs.Requests.{token-request}
+use Rattle.domain.proofs.Requesting.{on-tokens}
 use borrow.Author.Needs.{needs}
-use Rattle.requests.proofs.token_request.Statement.{statement}
-use Rattle.requests.proofs.token_request.Tie as tie
+use Rattle.passing.proofs.request.Statement.{statement}
+use Rattle.passing.proofs.request.Tie as tie
 
 grab-requires : tie.Need-grab-requires
 grab-requires c κs = search needs
@@ -85,8 +85,8 @@ returns-7 c = λ m cs new. let a = c .before .before .before .before .before .be
     let n = a .number in
     on-tokens (a .limits) m _ cs _ new (a .p) (token-request n (a .first) (a .second) (a .third)) _ _ (c .before .before .test .ensures) (rw (ne-eqb n 29 (r .0 .0 .0 .0 .0 .1), ne-eqb n 31 (r .0 .0 .0 .0 .1), ne-eqb n 33 (r .0 .0 .0 .1), ne-eqb n 35 (r .0 .0 .1), ne-eqb n 37 (r .0 .1), ne-eqb n 39 (r .1)) refl)
 
-pub token-request-spec : {M : Type 1} → statement M
-token-request-spec =
+pub request-spec : {M : Type 1} → statement M
+request-spec =
     tie.close
     (tie.spec
     grab-requires

@@ -1,14 +1,14 @@
 use native.Mathlib.Omega.{arith}
 use Rattle.messages.proofs.Refusals.{bytes-at}
-use Rattle.reception.proofs.Turning.{not-true, not-false}
+use borrow.Author.Tests.{not-true, not-false}
 use mathlib.Core.Path.{refl, sym, ap, _∙_}
 use Rattle.domain.specs.Numbers.{replyNumber}
-use Rattle.provider.specs.Provider.{number-in}
-use Rattle.provider.proofs.Understanding.{none-understood, long-understood, unknown-understood, down-understood, unserved-understood, read-understood, refuses-asks, Lists, asked-asks, codec-asks}
+use Rattle.understanding.specs.Understood.{number-in}
+use Rattle.understanding.proofs.Understanding.{none-understood, long-understood, unknown-understood, down-understood, unserved-understood, read-understood, refuses-asks, Lists, asked-asks, codec-asks}
 use Rattle.messages.proofs.ColumnLaws.{up-at, served-at}
 use borrow.Author.Needs.{needs}
-use Rattle.provider.proofs.reading.understand_all.Statement.{statement}
-use Rattle.provider.proofs.reading.understand_all.Tie as tie
+use Rattle.understanding.proofs.understand_all.Statement.{statement}
+use Rattle.understanding.proofs.understand_all.Tie as tie
 
 refused-requires : tie.Need-refused-requires
 refused-requires c κs = search needs

@@ -1,7 +1,7 @@
 // What the provider makes of the octets of a message, before it looks at any table.
 ghost use mathlib.Core.Path.{_≡_};
 ghost use Rattle.domain.specs.Numbers.{replyNumber};
-ghost use Rattle.provider.specs.Readings.{reply-for, Understands, Requests, Asked};
+ghost use Rattle.understanding.specs.Readings.{reply-for, Understands, Requests, Asked};
 use domain::numbers::Reply;
 use reader::Decoded;
 

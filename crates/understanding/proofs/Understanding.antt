@@ -29,10 +29,10 @@ use Rattle.domain.specs.Numbers.{replyNumber}
 use Rattle.domain.specs.Tables.{Domain}
 use Rattle.domain.specs.Effects.{Effect}
 use Rattle.domain.specs.Events.{Reading, reads, refuses, act, answers, ends, sends, complaint}
-use Rattle.provider.specs.declared.reading.Understood.{Understood}
-use Rattle.provider.specs.Provider.{number-in, read-as, understood}
-use Rattle.requests.specs.Requests.{token-request, private-request, channel-request, user-request, request}
-use Rattle.provider.specs.Readings.{reply-for, requested, asks, Understands, Requests, Asked}
+use Rattle.understanding.specs.declared.Understood.{Understood}
+use Rattle.understanding.specs.Understood.{number-in, read-as, understood}
+use Rattle.understanding.specs.Requests.{token-request, private-request, channel-request, user-request, request}
+use Rattle.understanding.specs.Readings.{reply-for, requested, asks, Understands, Requests, Asked}
 
 -- ---- the tests, in their order
 module _ (os : List ℕ) where

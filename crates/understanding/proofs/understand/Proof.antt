@@ -1,9 +1,9 @@
 use native.Mathlib.Omega.{arith}
 use Rattle.messages.proofs.Refusals.{bytes-at}
-use Rattle.provider.proofs.Understanding.{short-asks}
+use Rattle.understanding.proofs.Understanding.{short-asks}
 use borrow.Author.Needs.{needs}
-use Rattle.provider.proofs.reading.understand.Statement.{statement}
-use Rattle.provider.proofs.reading.understand.Tie as tie
+use Rattle.understanding.proofs.understand.Statement.{statement}
+use Rattle.understanding.proofs.understand.Tie as tie
 
 two-ids-requires : tie.Need-two-ids-requires
 two-ids-requires c κs = search needs

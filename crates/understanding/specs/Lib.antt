@@ -1,0 +1,3 @@
+pub mod Understood
+pub mod Requests
+pub mod Readings
