@@ -13,41 +13,41 @@ use domain::numbers::Result;
 pub fn take_user(out: &mut [u8], p: u8, u: u16) -> Answer
     ensures { λ r. ⌜ answered {A = Unit {0}} r tt (now (out .exit)) ≡ sends 0 tt tt (to p (AUcf successful (some u)) ∷ []) (now (out .entry)) ⌝ }
 {
-    let m = records::compose::attach_confirm(u);
+    let m = compose::attach_confirm(u);
     confirm(out, p, &m)
 }
 
 pub fn deny_user(out: &mut [u8], p: u8, result: Result) -> Answer
     ensures { λ r. ⌜ answered {A = Unit {0}} r tt (now (out .exit)) ≡ sends 0 tt tt (to p (AUcf (resultNumber result) none) ∷ []) (now (out .entry)) ⌝ }
 {
-    let m = records::compose::attach_refusal(states::numbers::result_number(result));
+    let m = compose::attach_refusal(states::numbers::result_number(result));
     confirm(out, p, &m)
 }
 
 pub fn take_join(out: &mut [u8], p: u8, u: u16, asked: u16, c: u16) -> Answer
     ensures { λ r. ⌜ answered {A = Unit {0}} r tt (now (out .exit)) ≡ sends 0 tt tt (to p (CJcf successful u asked (some c)) ∷ []) (now (out .entry)) ⌝ }
 {
-    let m = records::compose::join_confirm(u, asked, c);
+    let m = compose::join_confirm(u, asked, c);
     confirm(out, p, &m)
 }
 
 pub fn deny_join(out: &mut [u8], p: u8, result: Result, u: u16, asked: u16) -> Answer
     ensures { λ r. ⌜ answered {A = Unit {0}} r tt (now (out .exit)) ≡ sends 0 tt tt (to p (CJcf (resultNumber result) u asked none) ∷ []) (now (out .entry)) ⌝ }
 {
-    let m = records::compose::join_refusal(states::numbers::result_number(result), u, asked);
+    let m = compose::join_refusal(states::numbers::result_number(result), u, asked);
     confirm(out, p, &m)
 }
 
 pub fn take_convene(out: &mut [u8], p: u8, u: u16, c: u16) -> Answer
     ensures { λ r. ⌜ answered {A = Unit {0}} r tt (now (out .exit)) ≡ sends 0 tt tt (to p (CCcf successful u (some c)) ∷ []) (now (out .entry)) ⌝ }
 {
-    let m = records::compose::convene_confirm(u, c);
+    let m = compose::convene_confirm(u, c);
     confirm(out, p, &m)
 }
 
 pub fn deny_convene(out: &mut [u8], p: u8, result: Result, u: u16) -> Answer
     ensures { λ r. ⌜ answered {A = Unit {0}} r tt (now (out .exit)) ≡ sends 0 tt tt (to p (CCcf (resultNumber result) u none) ∷ []) (now (out .entry)) ⌝ }
 {
-    let m = records::compose::convene_refusal(states::numbers::result_number(result), u);
+    let m = compose::convene_refusal(states::numbers::result_number(result), u);
     confirm(out, p, &m)
 }

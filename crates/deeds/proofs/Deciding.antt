@@ -10,9 +10,9 @@ use Rattle.places.specs.Sets.{if_then_else_}
 use Rattle.places.specs.Places.{Place, At, Nowhere, find}
 use Rattle.messages.specs.Named.{Message, TGcf, TIcf, TRcf, TVin, TVcf, successful, no-such-user, token-not-possessed}
 use Rattle.records.specs.Records.{to, wire}
-use Rattle.records.specs.Confirms.{confirm}
-use Rattle.records.specs.declared.compose.Confirm.{Confirm}
-use Rattle.records.specs.declared.compose.Confirm.the-variants.{Give}
+use Rattle.compose.specs.Confirms.{confirm}
+use Rattle.compose.specs.declared.Confirm.{Confirm}
+use Rattle.compose.specs.declared.Confirm.the-variants.{Give}
 use Rattle.domain.specs.declared.numbers.Result.{Result}
 use Rattle.domain.specs.declared.token.Holding.{Holding}
 use Rattle.domain.specs.declared.token.Holding.the-variants.{Free, Grabbed, Inhibited, Giving, Given}

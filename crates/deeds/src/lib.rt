@@ -4,16 +4,16 @@ ghost use mathlib.Core.Bool.{true, false};
 ghost use lib.ListN.{getD};
 ghost use Rattle.places.specs.Places.{At, Nowhere};
 ghost use Rattle.records.specs.Records.{wire};
-ghost use Rattle.records.specs.Confirms.{confirm as confirmOf};
+ghost use Rattle.compose.specs.Confirms.{confirm as confirmOf};
 ghost use Rattle.domain.specs.Tokens.{turnedOf, status as statusOf};
 ghost use Rattle.domain.specs.Tables.{Tokens, users-of, attached, at-limit, is-free, state, set-token};
 ghost use Rattle.domain.specs.Passing.{turn as turnOf, offer as offerOf, answer as answerOf, informed};
 ghost use Rattle.domain.specs.Effects.{done};
 ghost use Rattle.deeds.specs.Deeds.{Does, asked};
+use compose::Confirm;
 use domain::numbers::Result;
 use domain::token::Holding;
 use domain::token::Turned;
-use records::compose::Confirm;
 
 // A place that is nowhere.
 pub const NOWHERE: u8 = 64;
@@ -100,7 +100,7 @@ fn confirm(kind: Confirm, result: u8, user: u16, token: u16, h: Holding, i: u8) 
     ensures { λ r. ⌜ r ≡ wire (confirmOf kind result user token (statusOf h i)) ⌝ }
 {
     let status = states::numbers::status_number(states::token::status(h, i));
-    records::compose::token_confirm(kind, result, user, token, status)
+    compose::token_confirm(kind, result, user, token, status)
 }
 
 // A deed of which nobody is told.
@@ -160,7 +160,7 @@ fn offered(
                 fate: Fate::Turns(Holding::Giving(i, j)),
                 told: true,
                 q: link_at(homes, j),
-                m: records::compose::give_indication(u, k, recipient),
+                m: compose::give_indication(u, k, recipient),
             };
         }
         return turned(

@@ -12,8 +12,9 @@ use Rattle.records.specs.Records.{Sent, to, tell, wire, records, framed}
 use Rattle.records.specs.Out.{Puts, guarded, listing, told}
 use Rattle.records.proofs.Laying.{held, held-inside, held-count, held-length, ids-length}
 use Rattle.records.proofs.Telling.{records-none, records-append, put-told, put-sent, put-more, put-nobody, sent-length, told-length}
-use Rattle.records.specs.declared.compose.Confirm.the-variants.{Give}
-use Rattle.records.proofs.Wire.{wire-DUin, wire-CDin, wire-confirm, listing-in}
+use Rattle.compose.specs.declared.Confirm.the-variants.{Give}
+use Rattle.records.proofs.Wire.{wire-DUin, wire-CDin, listing-in}
+use Rattle.compose.proofs.Confirming.{wire-confirm}
 use Rattle.domain.specs.declared.channel.Kind.{Kind}
 use Rattle.domain.specs.declared.channel.Kind.the-variants.{Static, User, Private, Assigned}
 use Rattle.domain.specs.declared.token.Holding.{Holding}

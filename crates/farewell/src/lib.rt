@@ -15,10 +15,10 @@ ghost use Rattle.domain.specs.Tables.{users-of, channels-of, tokens-of, domain-
 ghost use Rattle.domain.specs.Tokens.{status as statusOf, lose as loseOf};
 ghost use Rattle.domain.specs.Leaving.{ended, returned, farewell as farewellOf};
 ghost use Rattle.farewell.specs.Parts.{parting, kind-at, ends-by, end-at, return-at};
+use compose::Confirm;
 use domain::channel::Kind;
 use domain::numbers::Result;
 use domain::token::Holding;
-use records::compose::Confirm;
 
 // DUin to the connections that remain, none where nobody leaves.
 fn put_parting(out: &mut [u8], live: u16, reason: u8, ids: &[u16]) -> usize
@@ -29,7 +29,7 @@ fn put_parting(out: &mut [u8], live: u16, reason: u8, ids: &[u16]) -> usize
         return 0;
     }
     let mut m = [0u8; 131];
-    let n = records::compose::detach_indication(&mut m, reason, ids);
+    let n = records::lists::detach_indication(&mut m, reason, ids);
     records::tell(out, 0, live, &m[..n])
 }
 
@@ -81,7 +81,7 @@ fn put_ended(
             if places::masks::has(gone, g) {
                 let held = tables::users::hosts(names, homes, places::masks::with_seat(guests, g));
                 let told = places::masks::common_links(held, live);
-                let m = records::compose::disband_indication(c);
+                let m = compose::disband_indication(c);
                 return records::tell(out, at, told, &m);
             }
             at
@@ -297,7 +297,7 @@ fn put_refusal(
     let h = states::token::lose(gone, Holding::Giving(g, r));
     let s = states::numbers::status_number(states::token::status(h, g));
     let n = states::numbers::result_number(Result::NoSuchUser);
-    let m = records::compose::token_confirm(Confirm::Give, n, name_at(names, g), k, s);
+    let m = compose::token_confirm(Confirm::Give, n, name_at(names, g), k, s);
     records::send(out, at, home_at(homes, g), &m)
 }
 

@@ -136,11 +136,11 @@ fn put_start(out: &mut [u8], at: usize, s: Say, q: u8, count: u8) -> usize
 {
     match s {
         Say::Admits(u, c) => {
-            let head = records::compose::admit_start(q, u, c, count);
+            let head = compose::admit_start(q, u, c, count);
             records::put_all(out, at, &head)
         }
         Say::Expels(c) => {
-            let head = records::compose::expel_start(q, c, count);
+            let head = compose::expel_start(q, c, count);
             records::put_all(out, at, &head)
         }
     }

@@ -11,7 +11,7 @@ use Rattle.places.proofs.Rows.{find-holds}
 use Rattle.messages.specs.Named.{DUin, CDin}
 use Rattle.messages.proofs.NamedLaws.{User, Token, Users}
 use Rattle.records.specs.Records.{Sent, tell}
-use Rattle.records.specs.declared.compose.Confirm.the-variants.{Give}
+use Rattle.compose.specs.declared.Confirm.the-variants.{Give}
 use Rattle.domain.specs.declared.channel.Kind.{Kind}
 use Rattle.domain.specs.declared.channel.Kind.the-variants.{Static, User as UserId, Private, Assigned}
 use Rattle.domain.specs.declared.token.Holding.{Holding}

@@ -12,9 +12,9 @@ use Rattle.messages.specs.Limits.{message-limit}
 use Rattle.messages.specs.Named.{Message, RJum, AUcf, DUin, CJcf, CCcf, CDin, CAin, CEin, TGcf, TIcf, TVcf, TRcf, TVin, TPin, TTcf}
 use Rattle.messages.proofs.NamedLaws.{Between, Each, User, Channel, Token, Users, Present, Ranges, in-ranges, sizeOf, idsSize, short-length}
 use Rattle.records.specs.Records.{Sent, to, tell}
-use Rattle.records.specs.declared.compose.Confirm.{Confirm}
-use Rattle.records.specs.declared.compose.Confirm.the-variants.{Grab, Inhibit, Give, Release}
-use Rattle.records.specs.Confirms.{confirm}
+use Rattle.compose.specs.declared.Confirm.{Confirm}
+use Rattle.compose.specs.declared.Confirm.the-variants.{Grab, Inhibit, Give, Release}
+use Rattle.compose.specs.Confirms.{confirm}
 use Rattle.history.proofs.ReadBack.{Readable, Readables}
 
 -- fields in their ranges, and not too long

@@ -12,7 +12,7 @@ use Rattle.places.proofs.Order.{keep-le}
 use Rattle.places.proofs.Rows.{find-holds}
 use Rattle.messages.specs.Named.{Message, CAin, CEin}
 use Rattle.messages.proofs.NamedLaws.{User, Token, Users}
-use Rattle.records.specs.declared.compose.Confirm.the-variants.{Give}
+use Rattle.compose.specs.declared.Confirm.the-variants.{Give}
 use Rattle.domain.specs.declared.token.Holding.{Holding}
 use Rattle.domain.specs.declared.token.Holding.the-variants.{Free, Grabbed, Inhibited, Giving, Given}
 use Rattle.domain.specs.Tables.{Domain, name, link, attached, state}

@@ -10,9 +10,9 @@ use Rattle.places.specs.Sets.{if_then_else_, any, has, with, only, seats}
 use Rattle.places.specs.Places.{Place, At, Nowhere, find}
 use Rattle.messages.specs.Named.{CDin, TVcf, TPin}
 use Rattle.messages.proofs.NamedLaws.{User, Channel, Token}
-use Rattle.records.specs.declared.compose.Confirm.{Confirm}
-use Rattle.records.specs.declared.compose.Confirm.the-variants.{Grab, Inhibit, Give, Release}
-use Rattle.records.specs.Confirms.{confirm}
+use Rattle.compose.specs.declared.Confirm.{Confirm}
+use Rattle.compose.specs.declared.Confirm.the-variants.{Grab, Inhibit, Give, Release}
+use Rattle.compose.specs.Confirms.{confirm}
 use Rattle.domain.specs.declared.channel.Kind.{Kind}
 use Rattle.domain.specs.declared.channel.Kind.the-variants.{Static, User as UserId, Private, Assigned}
 use Rattle.domain.specs.declared.token.Holding.{Holding}

@@ -327,7 +327,7 @@ pub fn please(
     }
     let h = tables::tokens::state(keys, modes, values, k);
     let mask = tables::users::hosts(names, homes, states::token::party(h));
-    let m = records::compose::please_indication(u, k);
+    let m = compose::please_indication(u, k);
     tell(out, mask, &m)
 }
 
@@ -362,7 +362,7 @@ pub fn test(
         };
     }
     let status = states::numbers::status_number(states::token::status(h, i));
-    let m = records::compose::test_confirm(u, k, status);
+    let m = compose::test_confirm(u, k, status);
     send(out, p, &m)
 }
 

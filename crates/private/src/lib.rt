@@ -138,7 +138,7 @@ pub fn disband(
     }
     let ch = tables::channels::channel_at(roles, chairs, guests, marks, j);
     let mask = homes_of(names, homes, ch.chair, ch.guests);
-    let m = records::compose::disband_indication(c);
+    let m = compose::disband_indication(c);
     let a = answers::tell(out, mask, &m);
     if answers::refused(a) {
         return a;

@@ -50,7 +50,7 @@ fn reject(p: u8, reply: Reply, diagnostic: u8, octets: &[u8], out: &mut [u8]) ->
         ≡ sends (replyNumber reply) d d (to p (RJum diagnostic (take 16 (now (octets .entry)))) ∷ []) (now (out .entry))) ⌝ }
 {
     let mut m = [0u8; 19];
-    let n = records::compose::reject(&mut m, diagnostic, octets);
+    let n = records::lists::reject(&mut m, diagnostic, octets);
     let total = n + 4;
     if out.len() < total {
         return Answer {

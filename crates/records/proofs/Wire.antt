@@ -8,46 +8,22 @@ use native.Mathlib.Nat.{div-one, sub-zero, min-zero, zero-min, suc-min-suc, min-
 use native.Mathlib.Omega.{arith}
 use borrow.Author.Tests.{lt-ltb, le-leb, lt-leb}
 use lib.ListN.{length, take, length-take}
-use Rattle.octets.specs.Octets.{anId, anOctet, octetsOf, nothing, writeItems, lengthOctets}
-use Rattle.messages.specs.Messages.{Row, plain, optional, entry, row, result, user, token, status}
+use Rattle.octets.specs.Octets.{anId, anOctet, octetsOf, writeItems, lengthOctets}
+use Rattle.messages.specs.Messages.{Row, entry, row}
 use Rattle.messages.specs.Limits.{list-limit}
 use Rattle.messages.specs.Codec.{octetsOfMsg}
-use Rattle.messages.specs.Named.{Message, fields, msg, maybe, RJum, AUcf, DUin, CJcf, CCcf, CDin, CAin, CEin, TGcf, TIcf, TVcf, TRcf, TTcf, TVin, TPin}
+use Rattle.messages.specs.Named.{Message, fields, msg, maybe, RJum, AUcf, DUin, CJcf, CCcf, CDin, CAin, CEin, TTcf, TVin, TPin}
 use Rattle.records.specs.Records.{two, wire, framed}
 use Rattle.records.specs.Out.{Puts, each-two, listing}
-use Rattle.records.specs.Confirms.{confirm, number}
-use Rattle.records.specs.declared.compose.Confirm.{Confirm}
-use Rattle.records.specs.declared.compose.Confirm.the-variants.{Grab, Inhibit, Give, Release}
 use Rattle.records.proofs.Laying.{put-none, ids-length}
 
 octets-two : (n : ℕ) → octetsOf 2 n ≡ two n
 octets-two n = rw (div-one (n % 256)) refl
 
-cons : {a b : ℕ} {xs ys : List ℕ} → a ≡ b → xs ≡ ys → a ∷ xs ≡ b ∷ ys
+pub cons : {a b : ℕ} {xs ys : List ℕ} → a ≡ b → xs ≡ ys → a ∷ xs ≡ b ∷ ys
 cons e f = ap₂ (λ (a : ℕ) (xs : List ℕ). a ∷ xs) e f
 
--- ---- tokens: result, user, token, status
-confirmed : (n : ℕ) → row n ≡ plain (result ∷ user ∷ token ∷ status ∷ []) nothing → n ≤ 42 → (r u k s : ℕ) → r < 256
-    → octetsOfMsg (msg n (r ∷ u ∷ k ∷ s ∷ []) []) ≡ (n * 4 + r / 4) ∷ (r % 4 * 64) ∷ two (u - 1001) ++ two (k - 1) ++ (s % 8 * 32) ∷ []
-unfolding octetsOfMsg
-confirmed n e h r u k s l =
-    rw (e, div-one ((u - 1001) % 256), div-one ((k - 1) % 256))
-    (cons (omega arith) (cons (omega arith) (ap (λ (x : List ℕ). two (u - 1001) ++ two (k - 1) ++ x) (cons (omega arith) refl))))
-
-pub wire-confirm : (kind : Confirm) (r u k s : ℕ) → r < 256
-    → wire (confirm kind r u k s) ≡ (number kind * 4 + r / 4) ∷ (r % 4 * 64) ∷ two (u - 1001) ++ two (k - 1) ++ (s % 8 * 32) ∷ []
-unfolding wire fields row entry
-wire-confirm Grab r u k s l = confirmed 30 refl (omega arith) r u k s l
-wire-confirm Inhibit r u k s l = confirmed 32 refl (omega arith) r u k s l
-wire-confirm Give r u k s l = confirmed 36 refl (omega arith) r u k s l
-wire-confirm Release r u k s l = confirmed 40 refl (omega arith) r u k s l
-
-pub number-most : (kind : Confirm) → number kind ≤ 40
-number-most Grab = omega arith
-number-most Inhibit = omega arith
-number-most Give = omega arith
-number-most Release = omega arith
-
+-- ---- tokens
 pub wire-TTcf : (u k s : ℕ) → wire (TTcf u k s) ≡ 168 ∷ two (u - 1001) ++ two (k - 1) ++ (s % 8 * 32) ∷ []
 unfolding wire fields row entry octetsOfMsg
 wire-TTcf u k s = rw (div-one ((u - 1001) % 256), div-one ((k - 1) % 256)) (ap (λ (x : List ℕ). 168 ∷ two (u - 1001) ++ two (k - 1) ++ x) (cons (omega arith) refl))

@@ -1,5 +1,5 @@
 // Records into an answer's room. A put counts always and writes where there is room: so a run over a room of no octets tells the size.
-pub mod compose;
+pub mod lists;
 
 ghost use mathlib.Core.Path.{_≡_};
 ghost use Prim.Native.Nat.{ℕ, _-_, _≤_, min};
@@ -58,7 +58,7 @@ pub fn put_two(s: &mut [u8], at: usize, n: u16) -> usize
 }
 
 // A number less the lowest of its kind.
-fn less(n: u16, low: u16) -> u16
+pub fn less(n: u16, low: u16) -> u16
     ensures { λ r. ⌜ r ≡ n - low ⌝ }
 {
     if n < low { 0 } else { n - low }

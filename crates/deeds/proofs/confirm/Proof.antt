@@ -1,7 +1,7 @@
 use mathlib.Core.Path.{ap, _∙_}
 use Prim.Native.Nat.{ℕ}
 use Rattle.records.specs.Records.{wire}
-use Rattle.records.specs.Confirms.{confirm}
+use Rattle.compose.specs.Confirms.{confirm}
 use borrow.Author.Needs.{needs}
 use Rattle.deeds.proofs.confirm.Statement.{statement}
 use Rattle.deeds.proofs.confirm.Tie as tie
