@@ -16,7 +16,7 @@ use Rattle.reader.specs.Stepping.{FieldAt, reached, Steps}
 use Rattle.reader.specs.declared.Decoded.{Decoded}
 use Rattle.reader.specs.declared.Step.{Step}
 use Rattle.writer.specs.Writing.{Encodes}
-use Rattle.writer.specs.declared.Wrote.{Wrote}
+use Rattle.sizes.specs.declared.Wrote.{Wrote}
 use Rattle.codec.specs.RoundTrip.{ReadBack}
 
 -- a place is known by what is behind it

@@ -13,8 +13,8 @@ use Rattle.messages.proofs.Theorems.{written-is-read}
 use Rattle.reader.specs.Held.{noMessage, decoded}
 use Rattle.writer.specs.Writing.{pickRoom, filled, Encodes}
 use Rattle.reader.specs.declared.Decoded.{Decoded}
-use Rattle.writer.specs.declared.Wrote.{Wrote}
-use Rattle.writer.specs.declared.Wrote.the-variants.{Upto, Not}
+use Rattle.sizes.specs.declared.Wrote.{Wrote}
+use Rattle.sizes.specs.declared.Wrote.the-variants.{Upto, Not}
 use Rattle.codec.specs.RoundTrip.{backBy, back, octetsBy, ReadBack}
 
 apart : {n k : ℕ} → Upto n ≡ Not k → ⊥

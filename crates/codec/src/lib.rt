@@ -2,10 +2,10 @@
 use brief::decode;
 use reader::Decoded;
 use reader::refused;
-use writer::Wrote;
+use sizes::Wrote;
 use writer::encode;
 ghost use Rattle.codec.specs.RoundTrip.{ReadBack};
-ghost use Rattle.writer.specs.Writing.{given};
+ghost use Rattle.sizes.specs.Sizes.{given};
 
 // A message written and read back from the octets written.
 pub fn encode_decode(

@@ -30,8 +30,8 @@ fn write_one(number: u32, token: u32, out: &mut [u8]) -> u32 {
     let ids = [0u16; 0];
     let octets = [0u8; 0];
     match writer::encode(number, &values, &ids, &octets, out) {
-        writer::Wrote::Upto(n) => (n % 256) as u32,
-        writer::Wrote::Not(r) => r as u32,
+        sizes::Wrote::Upto(n) => (n % 256) as u32,
+        sizes::Wrote::Not(r) => r as u32,
     }
 }
 

@@ -2,7 +2,7 @@
 use crate::line;
 use crate::room;
 use reader::Decoded;
-use writer::Wrote;
+use sizes::Wrote;
 
 // Whether the message is written as these octets, with those behind them left as they were.
 fn is_written_again(

@@ -2,7 +2,7 @@
 use crate::line;
 use crate::numbers;
 use crate::room;
-use writer::Wrote;
+use sizes::Wrote;
 
 // The line of n octets written: these, and the mark, that all behind them stayed.
 fn put_octets(text: &mut [u8], out: &[u8], n: usize) -> usize {

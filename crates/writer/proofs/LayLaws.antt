@@ -2,7 +2,7 @@
 use mathlib.Core.Path.{_≡_, refl, sym, ap, _∙_}
 use mathlib.Core.Bool.{true}
 use mathlib.Core.List.{List, [], _∷_, _++_, append-assoc, append-nil}
-use Prim.Native.Nat.{ℕ, zero, suc, _+_, _-_, _*_, _/_, _%_, _^_, _<_, _≤_}
+use Prim.Native.Nat.{ℕ, suc, _+_, _-_, _*_, _/_, _%_, _^_, _<_, _≤_}
 use native.Mathlib.Nat.{div-lt-iff-lt-mul, mod-eq-of-lt, mod-lt, one-le-pow, pow-succ', div-one}
 use native.Mathlib.Numerals.{add-one}
 use native.Mathlib.Omega.{arith}
@@ -12,11 +12,8 @@ use lib.Dec.{leb}
 use borrow.Author.Tests.{le-ltb, lt-ltb, leb-true}
 use Rattle.octets.specs.Octets.{octetsOf, lengthOctets, size, fitsItem, writeItem, anId, aNumber}
 use Rattle.octets.proofs.OctetLaws.{size-holds, both-left, both-right}
+use Rattle.sizes.proofs.LengthLaws.{length-octets, length-one, number-length}
 use Rattle.writer.specs.Writing.{Lays}
-
-pub length-octets : (k v : ℕ) → length (octetsOf k v) ≡ k
-length-octets zero v = refl
-length-octets (suc k) v = ap suc (length-octets k (v % 256 ^ k))
 
 pub unit-pos : (k u : ℕ) → u ≡ 256 ^ k → 0 < u
 unit-pos k u e = rw e (one-le-pow k 256 (omega arith))
@@ -86,18 +83,7 @@ length-lays n h l = rw (length-small n h) l
 pub length-lays-two : {s : List ℕ} {i : ℕ} {s′ : List ℕ} {next : ℕ} (n : ℕ) → 128 ≤ n → Lays s i (octetsOf 2 (n + 32768)) s′ next → Lays s i (lengthOctets n) s′ next
 length-lays-two n h l = rw (length-large n h) l
 
-pub length-one : (n : ℕ) → n < 128 → length (lengthOctets n) ≡ 1
-length-one n h = rw (lt-ltb n 128 h)
-
-pub length-two : (n : ℕ) → 128 ≤ n → length (lengthOctets n) ≡ 2
-length-two n h = rw (le-ltb n 128 h)
-
 -- an integer
-pub number-length : (v : ℕ) → v < 4294967296 → length (writeItem aNumber v) ≡ 1 + size v
-number-length v h =
-    let few : (v < 256 ^ size v) × (0 < size v) × (size v ≤ 4) = size-holds v h in
-    length-append (lengthOctets (size v)) (octetsOf (size v) v) ∙ rw (length-one (size v) (omega arith), length-octets)
-
 pub lays-near : {s : List ℕ} {i : ℕ} {os s′ : List ℕ} {next : ℕ} → Lays s i os s′ next → (n : ℕ) → i + length os ≤ n → next ≤ n
 lays-near l n h = omega (arith, l .ends)
 

@@ -1,6 +1,6 @@
 use Rattle.writer.proofs.LayLaws.{id-fits}
 use Rattle.writer.proofs.LayLaws.{octet-lays}
-use Rattle.writer.specs.Writing.{itemOf}
+use Rattle.sizes.specs.Sizes.{itemOf}
 use borrow.Author.Tests.{ltb-true}
 use borrow.Author.Tests.{eq-eqb, ne-eqb}
 use borrow.Author.Needs.{needs}

@@ -1,5 +1,6 @@
 use native.Mathlib.Omega.{arith}
-use Rattle.writer.proofs.LayLaws.{length-one, length-two, length-lays, length-lays-two}
+use Rattle.sizes.proofs.LengthLaws.{length-one, length-two}
+use Rattle.writer.proofs.LayLaws.{length-lays, length-lays-two}
 use borrow.Author.Needs.{needs}
 use Rattle.writer.proofs.put_length.Statement.{statement}
 use Rattle.writer.proofs.put_length.Tie as tie

@@ -1,6 +1,6 @@
 use Rattle.messages.proofs.ColumnLaws.{form-at, count-at, tail-at}
 use Rattle.writer.proofs.MessageLaws.{fine-given, fine-some, fine-four, fine-room, fine-tail, fine-same}
-use Rattle.writer.specs.Writing.{given}
+use Rattle.sizes.specs.Sizes.{given}
 use mathlib.Core.Path.{refl, _∙_}
 use native.Mathlib.Omega.{arith}
 use borrow.Author.Needs.{needs}

@@ -1,5 +1,5 @@
 use Rattle.writer.proofs.TailLaws.{Listing, listing-nothing, listing-room, listing-start, listing-fits, listing-next, listing-more, listing-all, listing-whole}
-use Rattle.writer.specs.Writing.{itemsFor}
+use Rattle.sizes.specs.Sizes.{itemsFor}
 use lib.ListN.{length}
 use Prim.Native.Nat.{_-_}
 use mathlib.Core.Path.{_≡_, _∙_}

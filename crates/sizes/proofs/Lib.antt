@@ -1,0 +1,4 @@
+pub mod LengthLaws
+pub mod FieldEnds
+pub mod TailSizes
+pub mod MessageSizes
