@@ -64,7 +64,7 @@ fn put_unread(out: &mut [u8], filled: usize, reply: u64, kind: Kind, message: &[
         Kind::Open => filled,
         Kind::Loss => filled,
         Kind::Message => {
-            let s = reader::stops::where_stopped(message);
+            let s = stops::where_stopped(message);
             if s.refusal == 0 {
                 return filled;
             }

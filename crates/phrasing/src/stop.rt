@@ -1,6 +1,6 @@
 // Where the reading of a message stopped, and why.
-use reader::stops::Part;
-use reader::stops::Why;
+use stops::Part;
+use stops::Why;
 use streams::lines::say;
 use streams::lines::say_number;
 use wording::words::say_named;
@@ -68,7 +68,7 @@ fn put_place(out: &mut [u8], filled: usize, bit: usize) -> usize {
 
 // The line that says where reading stopped: the octet and the bit, the part of the message, and why.
 pub fn put_stop(out: &mut [u8], filled: usize, octets: &[u8]) -> usize {
-    let s = reader::stops::where_stopped(octets);
+    let s = stops::where_stopped(octets);
     let part = s.part;
     let why = s.why;
     let a = put_place(out, filled, s.bit);

@@ -4,4 +4,3 @@ pub mod Loop
 pub mod RowLaws
 pub mod ListLaws
 pub mod BodyLaws
-mod StopLaws

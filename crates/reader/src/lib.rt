@@ -1,6 +1,4 @@
 // The reader: the message of some octets, or a refusal. And a reader that remembers the message and the bit that it has reached.
-pub mod stops;
-
 use messages::LIST_LIMIT;
 use messages::MESSAGE_LIMIT;
 use messages::STRING_LIMIT;
