@@ -1,4 +1,4 @@
--- What is read the short way: ids behind the first octet, and a result before them. Assumes nothing.
+-- What is read the short way: ids behind the first octet, a result or a reason before them, a list behind them. Assumes nothing.
 use mathlib.Core.Path.{_≡_, refl, sym, ap, _∙_}
 use mathlib.Core.Bool.{Bool, true, false}
 use mathlib.Core.List.{List, [], _∷_}
@@ -7,12 +7,12 @@ use native.Mathlib.Omega.{arith}
 use lib.ListN.{length, getD, drop, drop-of-length-le}
 use lib.Dec.{eqb}
 use borrow.Author.Tests.{lt-ltb, le-leb}
-use Rattle.octets.specs.Octets.{got, _>>=_, give, need, anId, nothing, readTail}
+use Rattle.octets.specs.Octets.{got, _>>=_, give, need, anId, Tail, nothing, readTail}
 use Rattle.octets.specs.Bits.{takeBits}
 use Rattle.octets.proofs.OctetLaws.{go-on}
 use Rattle.octets.proofs.Reading.{octet-at}
 use Rattle.messages.specs.Limits.{message-limit}
-use Rattle.messages.specs.Messages.{Field, item, user, result, kind, Row, plain, row, is-served}
+use Rattle.messages.specs.Messages.{Field, item, user, result, reason, kind, Row, plain, row, is-served}
 use Rattle.messages.specs.Codec.{takeField, takeFields, takeRow, Msg, readMsg, ok, ending, decode}
 use Rattle.brief.specs.declared.Short.{Short}
 use Rattle.reader.specs.Held.{padded, isString, decoded}
@@ -29,12 +29,15 @@ module _ (k low : ℕ) (e : _≡_ {A = Row × Bool × Bool × ℕ} (row (k / 4),
         whole = λ h. ap (λ (x : Row × Bool × Bool × ℕ). x .3) e;
       })
 
--- the fields from an octet to the end
-pub record Takes (s : List ℕ) (i left bits : ℕ) (fs : List Field) (vs : List ℕ) : Type 0 where
-  pub same : takeFields fs left bits (drop i s) ≡ got (vs, 0) []
+-- the fields from an octet on, and the octets behind them: none, or those from a place on
+pub record Takes (s : List ℕ) (i left bits : ℕ) (fs : List Field) (vs rest : List ℕ) : Type 0 where
+  pub same : takeFields fs left bits (drop i s) ≡ got (vs, 0) rest
 
-pub none-left : {s : List ℕ} {i left : ℕ} → length s ≤ i → Takes s i left 0 [] []
+pub none-left : {s : List ℕ} {i left : ℕ} → length s ≤ i → Takes s i left 0 [] [] []
 none-left {s} h = record { same = rw (drop-of-length-le s h) refl }
+
+pub then-more : {s : List ℕ} {i left : ℕ} → Takes s i left 0 [] [] (drop i s)
+then-more = record { same = refl }
 
 -- a result in 2 bits and the first 2 of the next octet, whose others are 0
 result-first : (o p : ℕ) (rest : List ℕ) → p < 256 → p % 64 ≡ 0 → takeField result 2 (o % 4) (p ∷ rest) ≡ got (o % 4 * 4 + p / 64, 0) rest
@@ -44,8 +47,16 @@ result-first o p rest b z =
     let r : (o % 4 * 256 + p) % 2 ^ 6 ≡ 0 = omega arith in
     simp (v, r, le-leb (o % 4 * 4 + p / 64) 15 (omega arith))
 
-module _ {s : List ℕ} {i : ℕ} {fs : List Field} {vs : List ℕ} where
-  pub id-before : {low v left : ℕ} → IdAt s i low v → v ≤ 65535 → Takes s (i + 1 + 1) 0 0 fs vs → Takes s i left 0 (item (anId low) ∷ fs) (v ∷ vs)
+-- a reason in 2 bits and the first of the next octet, whose others are 0
+reason-first : (o p : ℕ) (rest : List ℕ) → p < 256 → p % 128 ≡ 0 → o % 4 * 2 + p / 128 ≤ 4 → takeField reason 2 (o % 4) (p ∷ rest) ≡ got (o % 4 * 2 + p / 128, 0) rest
+unfolding takeField takeBits
+reason-first o p rest b z m =
+    let v : (o % 4 * 256 + p) / 2 ^ 7 ≡ o % 4 * 2 + p / 128 = omega arith in
+    let r : (o % 4 * 256 + p) % 2 ^ 7 ≡ 0 = omega arith in
+    simp (v, r, le-leb (o % 4 * 2 + p / 128) 4 m)
+
+module _ {s : List ℕ} {i : ℕ} {fs : List Field} {vs rest : List ℕ} where
+  pub id-before : {low v left : ℕ} → IdAt s i low v → v ≤ 65535 → Takes s (i + 1 + 1) 0 0 fs vs rest → Takes s i left 0 (item (anId low) ∷ fs) (v ∷ vs) rest
   unfolding takeField
   id-before {v = v} e m t =
       record {
@@ -54,8 +65,8 @@ module _ {s : List ℕ} {i : ℕ} {fs : List Field} {vs : List ℕ} where
             ∙ go-on (λ r. give (v ∷ r .0, r .1)) (t .same);
       }
 
-  pub result-before : (o p : ℕ) → i < length s → p ≡ getD s i 0 → p < 256 → p % 64 ≡ 0 → Takes s (i + 1) 6 0 fs vs
-      → Takes s i 2 (o % 4) (result ∷ fs) ((o % 4 * 4 + p / 64) ∷ vs)
+  pub result-before : (o p : ℕ) → i < length s → p ≡ getD s i 0 → p < 256 → p % 64 ≡ 0 → Takes s (i + 1) 6 0 fs vs rest
+      → Takes s i 2 (o % 4) (result ∷ fs) ((o % 4 * 4 + p / 64) ∷ vs) rest
   result-before o p h e b z t =
       record {
         same =
@@ -64,9 +75,18 @@ module _ {s : List ℕ} {i : ℕ} {fs : List Field} {vs : List ℕ} where
             ∙ go-on (λ r. give ((o % 4 * 4 + p / 64) ∷ r .0, r .1)) (t .same));
       }
 
--- a message by its first octet and its fields
-module _ (s : List ℕ) (o : ℕ) (is : o ≡ getD s 0 0) (some : 0 < length s) (few : length s ≤ message-limit) (byte : o < 256) (b : ℕ) (bits : o % 4 ≡ b) (fs : List Field) (vs : List ℕ) (st : Starts o fs)
-    (t : Takes s 1 2 b fs vs) where
+  pub reason-before : (o p : ℕ) → i < length s → p ≡ getD s i 0 → p < 256 → p % 128 ≡ 0 → o % 4 * 2 + p / 128 ≤ 4 → Takes s (i + 1) 7 0 fs vs rest
+      → Takes s i 2 (o % 4) (reason ∷ fs) ((o % 4 * 2 + p / 128) ∷ vs) rest
+  reason-before o p h e b z m t =
+      record {
+        same =
+            rw (octet-at s i p h e)
+            (go-on (λ t. takeFields fs 7 (t .1) >>= λ r. give (t .0 ∷ r .0, r .1)) (reason-first o p (drop (i + 1) s) b z m)
+            ∙ go-on (λ r. give ((o % 4 * 2 + p / 128) ∷ r .0, r .1)) (t .same));
+      }
+
+-- a message by its first octet, its fields and what follows them
+module _ (s : List ℕ) (o : ℕ) (is : o ≡ getD s 0 0) (some : 0 < length s) (few : length s ≤ message-limit) (byte : o < 256) (b : ℕ) (bits : o % 4 ≡ b) (fs : List Field) (vs : List ℕ) where
   number-first : takeField kind 0 0 s ≡ got (o / 4, b) (drop 1 s)
   unfolding takeField takeBits
   number-first =
@@ -74,19 +94,23 @@ module _ (s : List ℕ) (o : ℕ) (is : o ≡ getD s 0 0) (some : 0 < length s) 
       let l : (0 * 256 + o) % 2 ^ 2 ≡ b = omega arith in
       ap (takeField kind 0 0) (octet-at s 0 o some is) ∙ simp (n, l, le-leb (o / 4) 63 (omega arith))
 
-  fields-then : takeRow (row (o / 4)) b (drop 1 s) ≡ got (vs, []) []
-  fields-then = rw (st .is) (go-on (λ r. need (eqb (r .1) 0) 5 (readTail nothing >>= λ items. give (r .0, items))) (t .same))
+  module _ (tail : Tail) (row-is : row (o / 4) ≡ plain fs tail) (rest items : List ℕ) (t : Takes s 1 2 b fs vs rest) (l : readTail tail rest ≡ got items []) where
+    fields-then : takeRow (row (o / 4)) b (drop 1 s) ≡ got (vs, items) []
+    fields-then =
+        rw row-is
+        (go-on (λ r. need (eqb (r .1) 0) 5 (readTail tail >>= λ items. give (r .0, items))) (t .same)
+        ∙ go-on (λ items. give (vs, items)) l)
 
-  read : readMsg s ≡ got (record { number = o / 4; values = vs; items = [] }) []
-  read =
-      go-on (λ n. takeRow (row (n .0)) (n .1) >>= λ r. give (record { number = n .0; values = r .0; items = r .1 })) number-first
-      ∙ go-on (λ r. give (record { number = o / 4; values = r .0; items = r .1 })) fields-then
+    read : readMsg s ≡ got (record { number = o / 4; values = vs; items = items }) []
+    read =
+        go-on (λ n. takeRow (row (n .0)) (n .1) >>= λ r. give (record { number = n .0; values = r .0; items = r .1 })) number-first
+        ∙ go-on (λ r. give (record { number = o / 4; values = r .0; items = r .1 })) fields-then
 
-  whole : decode s ≡ ok (record { number = o / 4; values = vs; items = [] })
-  unfolding decode
-  whole = simp (lt-ltb 0 (length s) some, le-leb (length s) message-limit few) (ap ending read)
+    pub whole : decode s ≡ ok (record { number = o / 4; values = vs; items = items })
+    unfolding decode
+    whole = simp (lt-ltb 0 (length s) some, le-leb (length s) message-limit few) (ap ending read)
 
-  pub shortly : (q : Short) → q ≡ record { ok = true; number = o / 4; have = length vs; first = getD vs 0 0; second = getD vs 1 0; third = getD vs 2 0 }
+  pub shortly : Starts o fs → Takes s 1 2 b fs vs [] → (q : Short) → q ≡ record { ok = true; number = o / 4; have = length vs; first = getD vs 0 0; second = getD vs 1 0; third = getD vs 2 0 }
       → padded 4 vs ≡ getD vs 0 0 ∷ getD vs 1 0 ∷ getD vs 2 0 ∷ 0 ∷ [] → Shortly s q
   unfolding in-full decoded
-  shortly q f cells = record { same = rw (f, whole, st .no-string, cells) refl; served = rw f (st .served) }
+  shortly st t q f cells = record { same = rw (f, whole nothing (st .is) [] [] t refl, st .no-string, cells) refl; served = rw f (st .served) }

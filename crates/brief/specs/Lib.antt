@@ -1,1 +1,2 @@
 pub mod Shortly
+pub mod Listed

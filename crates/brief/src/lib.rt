@@ -1,4 +1,6 @@
 // The short way: the messages of a few ids, which a conference sends most. Whoever gets no answer here reads the long way.
+pub mod lists;
+
 use messages::LIST_LIMIT;
 use octets::wide;
 use reader::Decoded;

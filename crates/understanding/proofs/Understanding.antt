@@ -24,6 +24,8 @@ use Rattle.reader.specs.Held.{padded, isString, noMessage, decoded}
 use Rattle.reader.specs.declared.Decoded.{Decoded}
 use Rattle.brief.specs.declared.Short.{Short}
 use Rattle.brief.specs.Shortly.{in-full, Shortly}
+use Rattle.brief.specs.declared.lists.Listing.{Listing}
+use Rattle.brief.specs.Listed.{in-list, Listed}
 use Rattle.reader.proofs.HeldLaws.{unlike}
 use Rattle.domain.specs.Numbers.{replyNumber}
 use Rattle.domain.specs.Tables.{Domain}
@@ -227,18 +229,32 @@ served-understood os x e s =
     read-understood os (ltb-true 0 (length os) (both-left (ltb 0 (length os)) (leb (length os) 1024) size))
     (leb-true (length os) 1024 (both-right (ltb 0 (length os)) (leb (length os) 1024) size)) (served-known (number-in os) s) (served-way (entry (number-in os) .0) s) s
 
-module _ (os : List ℕ) (q : Short) (h : Shortly os q) (a : q .first < 65536) (b : q .second < 65536) (c : q .third < 65536) where
-  pub short-asks : Bytes os → (u : Understood) → Requests (q .number) (q .first) (q .second) (q .third) 0 u → (listed : List ℕ) → Understands os u listed
-  unfolding in-full decoded noMessage Lists
-  short-asks y u r listed = go (decode os) refl
+module _ (os : List ℕ) (dec : Decoded) (e : dec ≡ decoded os (decode os)) (k : dec .ok ≡ true) (s : is-served (dec .number) ≡ true) where
+  served-read : Bytes os → (u : Understood) → Asked dec u → (listed : List ℕ) → Lists dec listed → Understands os u listed
+  unfolding decoded noMessage
+  served-read y u r listed l = go (decode os) refl
     where
       go : (o : Outcome Msg) → decode os ≡ o → Understands os u listed
       go (ok x) f =
-          let e = h .same ∙ ap (decoded os) f in
-          let s : is-served (number-in os) ≡ true = ap is-served (sym (ap (λ (z : Decoded). z .number) e ∙ number-is os x f)) ∙ h .served in
-          asked-asks os (in-full q) u (rw (← small (q .first) (omega arith), ← small (q .second) (omega arith), ← small (q .third) (omega arith)) at r) listed refl
-          (h .same) (served-understood os x f s) y refl s
-      go (refuse n) f = absurd (unlike (sym (ap (λ (z : Decoded). z .ok) (h .same ∙ ap (decoded os) f))))
+          let n : is-served (number-in os) ≡ true = ap is-served (sym (ap (λ (z : Decoded). z .number) (e ∙ ap (decoded os) f) ∙ number-is os x f)) ∙ s in
+          asked-asks os dec u r listed l e (served-understood os x f n) y k n
+      go (refuse n) f = absurd (unlike (sym (ap (λ (z : Decoded). z .ok) (e ∙ ap (decoded os) f)) ∙ k))
+
+module _ (os : List ℕ) (y : Bytes os) (u : Understood) (listed : List ℕ) where
+  pub short-asks : (q : Short) → Shortly os q → q .first < 65536 → q .second < 65536 → q .third < 65536 → Requests (q .number) (q .first) (q .second) (q .third) 0 u
+      → Understands os u listed
+  unfolding in-full Lists
+  short-asks q h a b c r =
+      served-read os (in-full q) (h .same) refl (h .served) y u
+      (rw (← small (q .first) (omega arith), ← small (q .second) (omega arith), ← small (q .third) (omega arith)) at r) listed refl
+
+  pub list-asks : (l : Listing) → Listed os l listed → l .first < 65536 → l .second < 65536 → Requests (l .number) (l .first) (l .second) 0 (l .count) u
+      → Understands os u listed
+  unfolding in-list Lists
+  list-asks l h a b r =
+      served-read os (in-list l listed) (h .same) refl (h .served) y u
+      (rw (← small (l .first) (omega arith), ← small (l .second) (omega arith)) at r) listed
+      (sym (ap (λ n. take n (padded 64 (take (l .count) listed))) (sym (h .stored)) ∙ first-listed (take (l .count) listed)))
 
 -- ---- what is asked, by the reply
 module _ (new : ℕ) (d : Domain) (p room : ℕ) (os : List ℕ) (u : Understood) (listed : List ℕ) where

@@ -1,7 +1,6 @@
 -- What the code makes of octets: a refusal by its number, or a request.
 use mathlib.Core.Path.{_≡_}
 use Prim.Native.Nat.{ℕ, _%_}
-use mathlib.Core.Bool.{Bool}
 use mathlib.Core.List.{List}
 use lib.Dec.{eqb}
 use lib.ListN.{take, getD}

@@ -1,7 +1,6 @@
 -- The message that a served number names, with its first three values and its list, as the code holds them: what it asks for is what the message
 -- read asks for.
 use Prim.Native.Nat.{ℕ, _%_}
-use mathlib.Core.Bool.{Bool}
 use mathlib.Core.List.{List}
 use lib.Dec.{eqb, ltb}
 use Rattle.places.specs.Sets.{if_then_else_}

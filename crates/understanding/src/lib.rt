@@ -15,7 +15,7 @@ pub struct Understood {
     pub count: usize,
 }
 
-// The short way first, two ids before all; else the long way, which stores the ids that are listed.
+// The short ways first, two ids before all, and those with a list of ids, which is stored; else the long way, which stores it too.
 pub fn understand(octets: &[u8], listed: &mut [u16; 64]) -> Understood
     ensures { λ r. ⌜ Understands (now (octets .entry)) r (now (listed .exit)) ⌝ }
 {
@@ -26,6 +26,10 @@ pub fn understand(octets: &[u8], listed: &mut [u16; 64]) -> Understood
     let q = brief::read_short(octets);
     if q.ok {
         return done(q.number, q.first, q.second, q.third, 0);
+    }
+    let l = brief::lists::read_listing(octets, listed);
+    if l.ok {
+        return done(l.number, l.first, l.second, 0, l.count);
     }
     understand_all(octets, listed)
 }

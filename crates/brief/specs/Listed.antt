@@ -1,0 +1,55 @@
+-- What is read straight into a list that is lent: the same message as the long way gives, and one that is served.
+use mathlib.Core.Path.{_≡_}
+use mathlib.Core.Bool.{true, false}
+use mathlib.Core.List.{List, [], _∷_}
+use Prim.Native.Nat.{ℕ, _+_, _*_, _≤_}
+use lib.ListN.{length, getD, take, drop}
+use Rattle.octets.specs.Octets.{got, anId, list, readItems, readTail}
+use Rattle.messages.specs.Limits.{list-limit}
+use Rattle.messages.specs.Messages.{is-served}
+use Rattle.messages.specs.Columns.{countAt}
+use Rattle.reader.specs.declared.Decoded.{Decoded}
+use Rattle.reader.specs.Held.{padded, decoded}
+use Rattle.reader.specs.Reading.{decodeOf}
+use Rattle.brief.specs.declared.lists.Listing.{Listing}
+
+-- a message with a list as `decode` answers it: its ids are the first of those stored, and every cell that it does not use is 0
+unfoldable pub in-list : Listing → List ℕ → Decoded
+in-list l ids =
+    record {
+      ok = true;
+      refusal = 0;
+      number = l .number;
+      have = countAt (l .number);
+      values = l .first ∷ l .second ∷ 0 ∷ 0 ∷ [];
+      count = l .count;
+      octets = false;
+      start = 0;
+      ids = padded list-limit (take (l .count) ids);
+    }
+
+pub record Listed (s : List ℕ) (l : Listing) (ids : List ℕ) : Type 0 where
+  pub same : in-list l ids ≡ decoded s (decodeOf s)
+  pub stored : length (take (l .count) ids) ≡ l .count
+  pub served : is-served (l .number) ≡ true
+
+-- an octet counts the ids behind it, which reach to the end
+pub record Counts (s : List ℕ) (at n : ℕ) : Type 0 where
+  pub is : n ≡ getD s at 0
+  pub whole : length s ≡ at + 1 + 2 * n
+
+-- so many ids are read at an octet, and stored
+pub record Stored (s : List ℕ) (from low count : ℕ) (ids : List ℕ) : Type 0 where
+  pub room : count ≤ length ids
+  pub read : readItems (anId low) count (drop from s) ≡ got (take count ids) (drop (from + 2 * count) s)
+
+-- a list from an octet to the end is read and stored, behind two values of which none is above 65,535
+pub record Behind (s : List ℕ) (at low number a b : ℕ) (l : Listing) (ids : List ℕ) : Type 0 where
+  pub number-is : l .number ≡ number
+  pub first-is : l .first ≡ a
+  pub second-is : l .second ≡ b
+  pub first-most : a ≤ 65535
+  pub second-most : b ≤ 65535
+  pub few : length s ≤ at + 1 + 2 * list-limit
+  pub stored : length (take (l .count) ids) ≡ l .count
+  pub read : readTail (list (anId low) list-limit) (drop at s) ≡ got (take (l .count) ids) []
