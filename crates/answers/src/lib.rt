@@ -1,24 +1,17 @@
-// What every request does: it looks whether a limit is reached, and sends its records whole or not at all.
+// What every request does: it looks for its initiator, and sends its records whole or not at all.
 pub mod confirms;
 
 ghost use mathlib.Core.Path.{_≡_};
 ghost use lib.Dec.{eqb};
 ghost use Rattle.records.specs.Records.{framed};
 ghost use Rattle.records.specs.Out.{guarded, told};
-ghost use Rattle.domain.specs.Tables.{at-limit, users-of, attached};
+ghost use Rattle.domain.specs.Tables.{users-of, attached};
 ghost use Rattle.domain.specs.Numbers.{replyNumber};
 ghost use Rattle.domain.specs.Effects.{answered};
 ghost use Rattle.tables.specs.Numbered.{place};
 ghost use Rattle.answers.specs.Whole.{unanswered, whole};
 use domain::answer::Answer;
 use domain::numbers::Reply;
-
-// So many places are in use that the limit is reached.
-pub fn at_limit(limit: u8, ids: &[u16]) -> bool
-    ensures { λ r. ⌜ r ≡ at-limit limit (now (ids .entry)) ⌝ }
-{
-    limit as usize <= places::columns::used(ids)
-}
 
 // The place of an initiator, which must be attached on p; 64 is nowhere.
 pub fn initiator(names: &[u16; 64], homes: &[u8; 64], p: u8, u: u16) -> usize

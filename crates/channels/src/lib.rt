@@ -48,10 +48,10 @@ pub fn attach(
         (channels-of (now (ids .entry)) (now (roles .entry)) (now (chairs .entry)) (now (guests .entry)) (now (marks .entry))) p)
         (now (out .entry)) ⌝ }
 {
-    if answers::at_limit(userlimit, names) {
+    if tables::at_limit(userlimit, names) {
         return confirms::deny_user(out, p, Result::TooManyUsers);
     }
-    if answers::at_limit(limit, ids) {
+    if tables::at_limit(limit, ids) {
         return confirms::deny_user(out, p, Result::TooManyChannels);
     }
     let new = places::columns::unused(ids);
@@ -151,7 +151,7 @@ fn join_new(
     if 1000 < c {
         return confirms::deny_join(out, p, Result::NoSuchChannel, u, c);
     }
-    if answers::at_limit(limit, ids) {
+    if tables::at_limit(limit, ids) {
         return confirms::deny_join(out, p, Result::TooManyChannels, u, c);
     }
     if c == 0 {

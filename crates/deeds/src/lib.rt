@@ -1,7 +1,6 @@
 // What comes of a request about a token, decided on the columns as they are: nothing is stored yet, and nothing sent.
 ghost use mathlib.Core.Path.{_≡_};
 ghost use mathlib.Core.Bool.{true, false};
-ghost use lib.ListN.{getD};
 ghost use Rattle.places.specs.Places.{At, Nowhere};
 ghost use Rattle.records.specs.Records.{wire};
 ghost use Rattle.compose.specs.Confirms.{confirm as confirmOf};
@@ -54,45 +53,14 @@ pub fn asker(names: &[u16; 64], homes: &[u8; 64], p: u8, u: u16) -> u8
     NOWHERE
 }
 
-// The token limit is reached.
-fn full(limit: u8, keys: &[u16; 64]) -> bool
-    ensures { λ r. ⌜ r ≡ at-limit limit (now (keys .entry)) ⌝ }
-{
-    let most = limit as usize;
-    most <= places::columns::used(keys)
-}
-
 // Where the token is free, whether the limit is reached: the table is counted for no other.
 fn full_for(h: Holding, limit: u8, keys: &[u16; 64]) -> bool
     ensures { λ r. ⌜ (is-free h ≡ true → r ≡ at-limit limit (now (keys .entry))) ⌝ }
 {
     if states::token::free(h) {
-        return full(limit, keys);
+        return tables::at_limit(limit, keys);
     }
     false
-}
-
-// The id of the user at a place, and its connection; 0 and 16 where there is no such place.
-fn name_at(names: &[u16; 64], j: u8) -> u16
-    ensures { λ r. ⌜ r ≡ getD (now (names .entry)) j 0 ⌝ }
-{
-    let s = &names[..];
-    let i = j as usize;
-    if i < s.len() {
-        return s[i];
-    }
-    0
-}
-
-fn link_at(homes: &[u8; 64], j: u8) -> u8
-    ensures { λ r. ⌜ r ≡ getD (now (homes .entry)) j 16 ⌝ }
-{
-    let s = &homes[..];
-    let i = j as usize;
-    if i < s.len() {
-        return s[i];
-    }
-    16
 }
 
 // The octets of a confirm, with the status of h for the user at place i.
@@ -159,7 +127,7 @@ fn offered(
             return Deed {
                 fate: Fate::Turns(Holding::Giving(i, j)),
                 told: true,
-                q: link_at(homes, j),
+                q: tables::users::link_at(homes, j),
                 m: compose::give_indication(u, k, recipient),
             };
         }
@@ -199,8 +167,15 @@ fn concluded(
         return Deed {
             fate: Fate::Turns(next),
             told: true,
-            q: link_at(homes, g),
-            m: confirm(Confirm::Give, result, name_at(names, g), k, next, g),
+            q: tables::users::link_at(homes, g),
+            m: confirm(
+                Confirm::Give,
+                result,
+                tables::users::name_at(names, g),
+                k,
+                next,
+                g,
+            ),
         };
     }
     quiet(Fate::Turns(next))

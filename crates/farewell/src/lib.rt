@@ -256,29 +256,6 @@ fn put_any_ends(
     from
 }
 
-// The id of the user at a place, and its connection; 16 is no connection.
-fn name_at(names: &[u16; 64], i: u8) -> u16
-    ensures { λ r. ⌜ r ≡ getD (now (names .entry)) i 0 ⌝ }
-{
-    let s = &names[..];
-    let j = i as usize;
-    if j < s.len() {
-        return s[j];
-    }
-    0
-}
-
-fn home_at(homes: &[u8; 64], i: u8) -> u8
-    ensures { λ r. ⌜ r ≡ getD (now (homes .entry)) i 16 ⌝ }
-{
-    let s = &homes[..];
-    let j = i as usize;
-    if j < s.len() {
-        return s[j];
-    }
-    16
-}
-
 // TVcf no-such-user to the giver g.
 fn put_refusal(
     out: &mut [u8],
@@ -297,8 +274,8 @@ fn put_refusal(
     let h = states::token::lose(gone, Holding::Giving(g, r));
     let s = states::numbers::status_number(states::token::status(h, g));
     let n = states::numbers::result_number(Result::NoSuchUser);
-    let m = compose::token_confirm(Confirm::Give, n, name_at(names, g), k, s);
-    records::send(out, at, home_at(homes, g), &m)
+    let m = compose::token_confirm(Confirm::Give, n, tables::users::name_at(names, g), k, s);
+    records::send(out, at, tables::users::link_at(homes, g), &m)
 }
 
 // The same where the recipient leaves and the giver stays.

@@ -48,7 +48,7 @@ pub fn convene(
     if 64 <= i {
         return answers::ignored();
     }
-    if answers::at_limit(limit, ids) {
+    if tables::at_limit(limit, ids) {
         return confirms::deny_convene(out, p, Result::TooManyChannels, u);
     }
     let new = places::columns::unused(ids);

@@ -2,6 +2,7 @@
 ghost use mathlib.Core.Path.{_≡_};
 ghost use mathlib.Core.List.{List};
 ghost use Prim.Native.Nat.{ℕ, _≤_};
+ghost use lib.ListN.{getD};
 ghost use Rattle.places.specs.Places.{number};
 ghost use Rattle.places.specs.Sets.{if_then_else_, with, links};
 ghost use Rattle.domain.specs.Channels.{places as placesOf};
@@ -70,4 +71,27 @@ pub fn places_of(names: &[u16; 64], ids: &[u16]) -> u64
         i += 1;
     }
     m
+}
+
+// The id of the user at a place, and its connection; 0 and 16 where there is no such place.
+pub fn name_at(names: &[u16; 64], j: u8) -> u16
+    ensures { λ r. ⌜ r ≡ getD (now (names .entry)) j 0 ⌝ }
+{
+    let s = &names[..];
+    let i = j as usize;
+    if i < s.len() {
+        return s[i];
+    }
+    0
+}
+
+pub fn link_at(homes: &[u8; 64], j: u8) -> u8
+    ensures { λ r. ⌜ r ≡ getD (now (homes .entry)) j 16 ⌝ }
+{
+    let s = &homes[..];
+    let i = j as usize;
+    if i < s.len() {
+        return s[i];
+    }
+    16
 }

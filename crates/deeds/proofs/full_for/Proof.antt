@@ -8,8 +8,8 @@ use Rattle.deeds.proofs.full_for.Tie as tie
 free-requires : tie.Need-free-requires
 free-requires c κs = search needs
 
-full-requires : tie.Need-full-requires
-full-requires c κs = search needs
+at-limit-requires : tie.Need-at-limit-requires
+at-limit-requires c κs = search needs
 
 returns : tie.Need-returns
 returns c = search needs
@@ -18,4 +18,4 @@ returns-2 : tie.Need-returns-2
 returns-2 c = λ e. absurd (true≢false (sym e ∙ sym (c .before .free .ensures) ∙ c .if1 .left))
 
 pub full-for-spec : {M : Type 1} → statement M
-full-for-spec = tie.close (tie.spec free-requires full-requires returns returns-2)
+full-for-spec = tie.close (tie.spec free-requires at-limit-requires returns returns-2)

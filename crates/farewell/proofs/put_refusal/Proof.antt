@@ -23,8 +23,8 @@ name-at-requires c κs = search needs
 token-confirm-requires : tie.Need-token-confirm-requires
 token-confirm-requires c κs = search needs
 
-home-at-requires : tie.Need-home-at-requires
-home-at-requires c κs = search needs
+link-at-requires : tie.Need-link-at-requires
+link-at-requires c κs = search needs
 
 slice-aggregate-send : tie.Need-slice-aggregate-send
 slice-aggregate-send c = search needs
@@ -38,8 +38,8 @@ same-length c = search needs
 returns : tie.Need-returns
 unfolding name link
 returns c = let a = c .before .before .before .before .before .before .before .before .before .before .before .before .before .args in
-    refusal-put (users-of (a .names .now) (a .homes .now)) (a .gone) (a .k) (a .g) (a .r) (c .before .before .before .before .home-at .result) (c .before .before .before .before .before .before .before .before .result-number .result) (c .before .before .before .before .before .before .before .name-at .result) (c .before .before .before .before .before .before .before .before .before .status-number .result) (c .before .before .before .before .before .before .before .before .before .before .before .lose .result)
-    (c .before .before .before .before .before .before .before .before .before .before .before .lose .ensures) (c .before .before .before .before .before .before .before .before .result-number .ensures) (c .before .before .before .before .before .before .before .name-at .ensures) (c .before .before .before .before .before .before .before .before .before .status-number .ensures ∙ c .before .before .before .before .before .before .before .before .before .before .status .ensures) (c .before .before .before .before .home-at .ensures) (c .before .before .before .before .before .before .token-confirm .ensures) (c .before .before .before .before .before .before .before .before .before .before .before .before .before .pre) (c .before .before .send .ensures)
+    refusal-put (users-of (a .names .now) (a .homes .now)) (a .gone) (a .k) (a .g) (a .r) (c .before .before .before .before .link-at .result) (c .before .before .before .before .before .before .before .before .result-number .result) (c .before .before .before .before .before .before .before .name-at .result) (c .before .before .before .before .before .before .before .before .before .status-number .result) (c .before .before .before .before .before .before .before .before .before .before .before .lose .result)
+    (c .before .before .before .before .before .before .before .before .before .before .before .lose .ensures) (c .before .before .before .before .before .before .before .before .result-number .ensures) (c .before .before .before .before .before .before .before .name-at .ensures) (c .before .before .before .before .before .before .before .before .before .status-number .ensures ∙ c .before .before .before .before .before .before .before .before .before .before .status .ensures) (c .before .before .before .before .link-at .ensures) (c .before .before .before .before .before .before .token-confirm .ensures) (c .before .before .before .before .before .before .before .before .before .before .before .before .before .pre) (c .before .before .send .ensures)
 
 pub put-refusal-spec : {M : Type 1} → statement M
 put-refusal-spec =
@@ -51,7 +51,7 @@ put-refusal-spec =
     result-number-requires
     name-at-requires
     token-confirm-requires
-    home-at-requires
+    link-at-requires
     slice-aggregate-send
     send-requires
     same-length

@@ -1,6 +1,6 @@
 use Rattle.domain.specs.Tables.{at-limit}
-use Rattle.answers.proofs.at_limit.Statement.{statement}
-use Rattle.answers.proofs.at_limit.Tie as tie
+use Rattle.tables.proofs.at_limit.Statement.{statement}
+use Rattle.tables.proofs.at_limit.Tie as tie
 
 used-requires : tie.Need-used-requires
 used-requires c κs = tt

@@ -2,8 +2,8 @@ use mathlib.Core.Path.{sym}
 use lib.ListN.{List·getD-eq-default}
 use Rattle.places.proofs.Rows.{getD-any}
 use borrow.Author.Needs.{needs}
-use Rattle.deeds.proofs.link_at.Statement.{statement}
-use Rattle.deeds.proofs.link_at.Tie as tie
+use Rattle.tables.proofs.users.link_at.Statement.{statement}
+use Rattle.tables.proofs.users.link_at.Tie as tie
 
 shared-slice-read-result : tie.Need-shared-slice-read-result
 shared-slice-read-result c = search needs

@@ -1,8 +1,8 @@
 use mathlib.Core.Path.{sym}
 use lib.ListN.{List·getD-eq-default}
 use borrow.Author.Needs.{needs}
-use Rattle.deeds.proofs.name_at.Statement.{statement}
-use Rattle.deeds.proofs.name_at.Tie as tie
+use Rattle.tables.proofs.users.name_at.Statement.{statement}
+use Rattle.tables.proofs.users.name_at.Tie as tie
 
 mul-result : tie.Need-mul-result
 mul-result c = search needs
