@@ -29,7 +29,7 @@ fn write_one(number: u32, token: u32, out: &mut [u8]) -> u32 {
     let values = [9, 1007, token, 2];
     let ids = [0u16; 0];
     let octets = [0u8; 0];
-    match writer::encode(number, &values, &ids, &octets, out) {
+    match terse::encode(number, &values, &ids, &octets, out) {
         sizes::Wrote::Upto(n) => (n % 256) as u32,
         sizes::Wrote::Not(r) => r as u32,
     }
