@@ -1,7 +1,7 @@
 // Requests about tokens, on lent columns: TGrq, TIrq, TRrq, TVrq, TVrs, TPrq, TTrq. Each decides, refuses what has no room, then stores and sends.
 ghost use mathlib.Core.Path.{_≡_};
 ghost use mathlib.Core.List.{[], _∷_};
-ghost use Prim.Native.Nat.{ℕ, _+_, _%_, _≤_};
+ghost use Prim.Native.Nat.{ℕ, _+_, _≤_};
 ghost use lib.Dec.{eqb};
 ghost use lib.ListN.{length};
 ghost use Rattle.places.specs.Sets.{if_then_else_};
@@ -11,7 +11,7 @@ ghost use Rattle.records.specs.Records.{to, tell as tellOf, wire};
 ghost use Rattle.domain.specs.Numbers.{replyNumber};
 ghost use Rattle.domain.specs.Tables.{Channels, Tokens, users-of, tokens-of, at-limit};
 ghost use Rattle.domain.specs.Effects.{Effect, settle, answered, done};
-ghost use Rattle.domain.specs.Passing.{take-token, share-token, drop-token, offer as offerOf, answer as answerOf, please as pleaseOf, test as testOf};
+ghost use Rattle.domain.specs.Passing.{please as pleaseOf, test as testOf};
 ghost use Rattle.domain.specs.Events.{act};
 ghost use Rattle.domain.specs.Joined.{joined};
 ghost use Rattle.understanding.specs.Requests.{token-request};
@@ -143,167 +143,8 @@ fn pass(
     carry(keys, modes, values, at, k, d, out)
 }
 
-// TGrq by u on p for token k.
-pub fn grab(
-    names: &[u16; 64],
-    homes: &[u8; 64],
-    keys: &mut [u16; 64],
-    modes: &mut [u8; 64],
-    values: &mut [u64; 64],
-    limit: u8,
-    p: u8,
-    u: u16,
-    k: u16,
-    out: &mut [u8],
-) -> Answer
-    ensures { λ r. ⌜ answered r (tokens-of (now (keys .exit)) (now (modes .exit)) (now (values .exit))) (now (out .exit))
-        ≡ settle (tokens-of (now (keys .entry)) (now (modes .entry)) (now (values .entry)))
-        (take-token (at-limit limit (now (keys .entry))) (users-of (now (names .entry)) (now (homes .entry))) (tokens-of (now (keys .entry)) (now (modes .entry)) (now (values .entry))) p u k) (now (out .entry)) ⌝ }
-{
-    pass(
-        names,
-        homes,
-        keys,
-        modes,
-        values,
-        limit,
-        p,
-        u,
-        k,
-        Ask::Grab,
-        out,
-    )
-}
-
-// TIrq by u on p for token k.
-pub fn inhibit(
-    names: &[u16; 64],
-    homes: &[u8; 64],
-    keys: &mut [u16; 64],
-    modes: &mut [u8; 64],
-    values: &mut [u64; 64],
-    limit: u8,
-    p: u8,
-    u: u16,
-    k: u16,
-    out: &mut [u8],
-) -> Answer
-    ensures { λ r. ⌜ answered r (tokens-of (now (keys .exit)) (now (modes .exit)) (now (values .exit))) (now (out .exit))
-        ≡ settle (tokens-of (now (keys .entry)) (now (modes .entry)) (now (values .entry)))
-        (share-token (at-limit limit (now (keys .entry))) (users-of (now (names .entry)) (now (homes .entry))) (tokens-of (now (keys .entry)) (now (modes .entry)) (now (values .entry))) p u k) (now (out .entry)) ⌝ }
-{
-    pass(
-        names,
-        homes,
-        keys,
-        modes,
-        values,
-        limit,
-        p,
-        u,
-        k,
-        Ask::Inhibit,
-        out,
-    )
-}
-
-// TRrq by u on p for token k.
-pub fn release(
-    names: &[u16; 64],
-    homes: &[u8; 64],
-    keys: &mut [u16; 64],
-    modes: &mut [u8; 64],
-    values: &mut [u64; 64],
-    p: u8,
-    u: u16,
-    k: u16,
-    out: &mut [u8],
-) -> Answer
-    ensures { λ r. ⌜ answered r (tokens-of (now (keys .exit)) (now (modes .exit)) (now (values .exit))) (now (out .exit))
-        ≡ settle (tokens-of (now (keys .entry)) (now (modes .entry)) (now (values .entry)))
-        (drop-token (users-of (now (names .entry)) (now (homes .entry))) (tokens-of (now (keys .entry)) (now (modes .entry)) (now (values .entry))) p u k) (now (out .entry)) ⌝ }
-{
-    pass(
-        names,
-        homes,
-        keys,
-        modes,
-        values,
-        0,
-        p,
-        u,
-        k,
-        Ask::Release,
-        out,
-    )
-}
-
-// TVrq by u on p: token k to recipient r.
-pub fn offer(
-    names: &[u16; 64],
-    homes: &[u8; 64],
-    keys: &mut [u16; 64],
-    modes: &mut [u8; 64],
-    values: &mut [u64; 64],
-    p: u8,
-    u: u16,
-    k: u16,
-    recipient: u16,
-    out: &mut [u8],
-) -> Answer
-    ensures { λ r. ⌜ answered r (tokens-of (now (keys .exit)) (now (modes .exit)) (now (values .exit))) (now (out .exit))
-        ≡ settle (tokens-of (now (keys .entry)) (now (modes .entry)) (now (values .entry)))
-        (offerOf (users-of (now (names .entry)) (now (homes .entry))) (tokens-of (now (keys .entry)) (now (modes .entry)) (now (values .entry))) p u k recipient) (now (out .entry)) ⌝ }
-{
-    pass(
-        names,
-        homes,
-        keys,
-        modes,
-        values,
-        0,
-        p,
-        u,
-        k,
-        Ask::Offer(recipient),
-        out,
-    )
-}
-
-// TVrs on p: recipient u answers for token k; any result but 0 declines. Results are taken % 16.
-pub fn answer(
-    names: &[u16; 64],
-    homes: &[u8; 64],
-    keys: &mut [u16; 64],
-    modes: &mut [u8; 64],
-    values: &mut [u64; 64],
-    p: u8,
-    result: u8,
-    u: u16,
-    k: u16,
-    out: &mut [u8],
-) -> Answer
-    ensures { λ r. ⌜ answered r (tokens-of (now (keys .exit)) (now (modes .exit)) (now (values .exit))) (now (out .exit))
-        ≡ settle (tokens-of (now (keys .entry)) (now (modes .entry)) (now (values .entry)))
-        (answerOf (users-of (now (names .entry)) (now (homes .entry))) (tokens-of (now (keys .entry)) (now (modes .entry)) (now (values .entry))) p (result % 16) u k) (now (out .entry)) ⌝ }
-{
-    pass(
-        names,
-        homes,
-        keys,
-        modes,
-        values,
-        0,
-        p,
-        u,
-        k,
-        Ask::Answer(result % 16),
-        out,
-    )
-}
-
 // TPrq by u on p for token k.
-pub fn please(
+fn please(
     names: &[u16; 64],
     homes: &[u8; 64],
     keys: &[u16; 64],
@@ -332,7 +173,7 @@ pub fn please(
 }
 
 // TTrq by u on p for token k.
-pub fn test(
+fn test(
     names: &[u16; 64],
     homes: &[u8; 64],
     keys: &[u16; 64],
@@ -422,7 +263,7 @@ pub fn request(
 {
     let most = limits.tokens;
     match number {
-        29 => grab(
+        29 => pass(
             names,
             homes,
             keys,
@@ -432,9 +273,10 @@ pub fn request(
             p,
             first,
             second,
+            Ask::Grab,
             out,
         ),
-        31 => inhibit(
+        31 => pass(
             names,
             homes,
             keys,
@@ -444,37 +286,52 @@ pub fn request(
             p,
             first,
             second,
+            Ask::Inhibit,
             out,
         ),
-        33 => offer(
+        33 => pass(
             names,
             homes,
             keys,
             modes,
             values,
+            most,
             p,
             first,
             second,
-            third,
+            Ask::Offer(third),
             out,
         ),
         35 => {
             let result = (first % 16) as u8;
-            answer(
+            pass(
                 names,
                 homes,
                 keys,
                 modes,
                 values,
+                most,
                 p,
-                result,
                 second,
                 third,
+                Ask::Answer(result),
                 out,
             )
         }
         37 => please(names, homes, keys, modes, values, p, first, second, out),
-        39 => release(names, homes, keys, modes, values, p, first, second, out),
+        39 => pass(
+            names,
+            homes,
+            keys,
+            modes,
+            values,
+            most,
+            p,
+            first,
+            second,
+            Ask::Release,
+            out,
+        ),
         _ => test(names, homes, keys, modes, values, p, first, second, out),
     }
 }

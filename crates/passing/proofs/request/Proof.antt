@@ -1,6 +1,4 @@
-use mathlib.Core.Path.{_≡_, refl}
-use Prim.Native.Nat.{_%_}
-use native.Mathlib.Omega.{arith}
+use mathlib.Core.Path.{refl}
 use borrow.Author.Tests.{ne-eqb}
 use Rattle.domain.specs.Events.{act, tokens-full}
 use Rattle.understanding.specs.Requests.{token-request}
@@ -9,26 +7,26 @@ use borrow.Author.Needs.{needs}
 use Rattle.passing.proofs.request.Statement.{statement}
 use Rattle.passing.proofs.request.Tie as tie
 
-grab-requires : tie.Need-grab-requires
-grab-requires c κs = search needs
+pass-requires : tie.Need-pass-requires
+pass-requires c κs = search needs
 
-inhibit-requires : tie.Need-inhibit-requires
-inhibit-requires c κs = search needs
+pass-requires-2 : tie.Need-pass-requires-2
+pass-requires-2 c κs = search needs
 
-offer-requires : tie.Need-offer-requires
-offer-requires c κs = search needs
+pass-requires-3 : tie.Need-pass-requires-3
+pass-requires-3 c κs = search needs
 
 cast-result : tie.Need-cast-result
 cast-result c = search needs
 
-answer-requires : tie.Need-answer-requires
-answer-requires c κs = search needs
+pass-requires-4 : tie.Need-pass-requires-4
+pass-requires-4 c κs = search needs
 
 please-requires : tie.Need-please-requires
 please-requires c κs = search needs
 
-release-requires : tie.Need-release-requires
-release-requires c κs = search needs
+pass-requires-5 : tie.Need-pass-requires-5
+pass-requires-5 c κs = search needs
 
 test-requires : tie.Need-test-requires
 test-requires c κs = search needs
@@ -38,28 +36,28 @@ same-length c = search needs
 
 returns : tie.Need-returns
 unfolding token-request act tokens-full
-returns c = λ m cs new. let a = c .before .before .before .before .before .before .before .before .before .args in on-tokens (a .limits) m _ cs _ new (a .p) (token-request (a .number) (a .first) (a .second) (a .third)) _ _ (c .before .before .grab .ensures) (rw (c .before .before .before .before .before .before .before .match .keys1) refl)
+returns c = λ m cs new. let a = c .before .before .before .before .before .before .before .before .before .args in on-tokens (a .limits) m _ cs _ new (a .p) (token-request (a .number) (a .first) (a .second) (a .third)) _ _ (c .before .before .pass .ensures) (rw (c .before .before .before .before .before .before .before .match .keys1) refl)
 
 same-length-2 : tie.Need-same-length-2
 same-length-2 c = search needs
 
 returns-2 : tie.Need-returns-2
 unfolding token-request act tokens-full
-returns-2 c = λ m cs new. let a = c .before .before .before .before .before .before .before .before .before .args in on-tokens (a .limits) m _ cs _ new (a .p) (token-request (a .number) (a .first) (a .second) (a .third)) _ _ (c .before .before .inhibit .ensures) (rw (c .before .before .before .before .before .before .before .match .keys2) refl)
+returns-2 c = λ m cs new. let a = c .before .before .before .before .before .before .before .before .before .args in on-tokens (a .limits) m _ cs _ new (a .p) (token-request (a .number) (a .first) (a .second) (a .third)) _ _ (c .before .before .pass2 .ensures) (rw (c .before .before .before .before .before .before .before .match .keys2) refl)
 
 same-length-3 : tie.Need-same-length-3
 same-length-3 c = search needs
 
 returns-3 : tie.Need-returns-3
 unfolding token-request act tokens-full
-returns-3 c = λ m cs new. let a = c .before .before .before .before .before .before .before .before .before .args in on-tokens (a .limits) m _ cs _ new (a .p) (token-request (a .number) (a .first) (a .second) (a .third)) _ _ (c .before .before .offer .ensures) (rw (c .before .before .before .before .before .before .before .match .keys3) refl)
+returns-3 c = λ m cs new. let a = c .before .before .before .before .before .before .before .before .before .args in on-tokens (a .limits) m _ cs _ new (a .p) (token-request (a .number) (a .first) (a .second) (a .third)) _ _ (c .before .before .pass3 .ensures) (rw (c .before .before .before .before .before .before .before .match .keys3) refl)
 
 same-length-4 : tie.Need-same-length-4
 same-length-4 c = search needs
 
 returns-4 : tie.Need-returns-4
 unfolding token-request act tokens-full
-returns-4 c = λ m cs new. let a = c .before .before .before .before .before .before .before .before .before .args in on-tokens (a .limits) m _ cs _ new (a .p) (token-request (a .number) (a .first) (a .second) (a .third)) _ _ (c .before .before .answer .ensures) (let z : a .first % 16 % 16 ≡ a .first % 16 = omega arith in rw (c .before .before .before .before .before .before .before .match .keys4, z) refl)
+returns-4 c = λ m cs new. let a = c .before .before .before .before .before .before .before .before .before .args in on-tokens (a .limits) m _ cs _ new (a .p) (token-request (a .number) (a .first) (a .second) (a .third)) _ _ (c .before .before .pass4 .ensures) (rw (c .before .before .before .before .before .before .before .match .keys4) refl)
 
 same-length-5 : tie.Need-same-length-5
 same-length-5 c = search needs
@@ -73,7 +71,7 @@ same-length-6 c = search needs
 
 returns-6 : tie.Need-returns-6
 unfolding token-request act tokens-full
-returns-6 c = λ m cs new. let a = c .before .before .before .before .before .before .before .before .before .args in on-tokens (a .limits) m _ cs _ new (a .p) (token-request (a .number) (a .first) (a .second) (a .third)) _ _ (c .before .before .release .ensures) (rw (c .before .before .before .before .before .before .before .match .keys6) refl)
+returns-6 c = λ m cs new. let a = c .before .before .before .before .before .before .before .before .before .args in on-tokens (a .limits) m _ cs _ new (a .p) (token-request (a .number) (a .first) (a .second) (a .third)) _ _ (c .before .before .pass5 .ensures) (rw (c .before .before .before .before .before .before .before .match .keys6) refl)
 
 same-length-7 : tie.Need-same-length-7
 same-length-7 c = search needs
@@ -89,13 +87,13 @@ pub request-spec : {M : Type 1} → statement M
 request-spec =
     tie.close
     (tie.spec
-    grab-requires
-    inhibit-requires
-    offer-requires
+    pass-requires
+    pass-requires-2
+    pass-requires-3
     cast-result
-    answer-requires
+    pass-requires-4
     please-requires
-    release-requires
+    pass-requires-5
     test-requires
     same-length
     returns
