@@ -1,6 +1,6 @@
 -- The domain that the bridge's struct holds: its limits, its open connections, and its tables by their columns.
 use Rattle.domain.specs.Tables.{Domain, domain-of}
-use Rattle.reception.specs.Reception.{limited}
+use Rattle.domain.specs.Outcomes.{limited}
 use Rattle.bridge.specs.declared.Domain.{Domain as Held}
 
 abbrev pub domain-in : Held → Domain

@@ -7,7 +7,7 @@ ghost use Rattle.places.specs.Places.{used};
 ghost use Rattle.domain.specs.Tables.{Domain as Tables};
 ghost use Rattle.domain.specs.Effects.{settled};
 ghost use Rattle.domain.specs.Events.{opens, loses, hears};
-ghost use Rattle.reception.specs.Reception.{begun, after, audience};
+ghost use Rattle.domain.specs.Outcomes.{begun, after, audience};
 ghost use Rattle.understanding.specs.Understood.{understood};
 ghost use Rattle.bridge.specs.Held.{domain-in};
 use edge::Answered;

@@ -12,9 +12,10 @@ use Rattle.octets.proofs.OctetLaws.{refused}
 use Rattle.messages.specs.Messages.{Field}
 use Rattle.messages.specs.Codec.{Msg, decode}
 use Rattle.reader.specs.Held.{decoded}
-use Rattle.reader.specs.Stepping.{FieldAt, reached, Steps}
+use Rattle.reader.specs.Fields.{FieldAt}
+use Rattle.cursor.specs.Steps.{reached, Steps}
 use Rattle.reader.specs.declared.Decoded.{Decoded}
-use Rattle.reader.specs.declared.Step.{Step}
+use Rattle.cursor.specs.declared.Step.{Step}
 use Rattle.writer.specs.Writing.{Encodes}
 use Rattle.sizes.specs.declared.Wrote.{Wrote}
 use Rattle.codec.specs.RoundTrip.{ReadBack}

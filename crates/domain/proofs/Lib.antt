@@ -5,3 +5,4 @@ pub mod Listed
 pub mod invariant
 pub mod holders
 pub mod Requesting
+pub mod Turning

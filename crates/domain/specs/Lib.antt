@@ -11,3 +11,4 @@ pub mod Good
 pub mod History
 pub mod Claims
 pub mod Joined
+pub mod Outcomes

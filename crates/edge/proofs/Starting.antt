@@ -6,7 +6,7 @@ use native.Mathlib.Omega.{arith}
 use Rattle.places.specs.Sets.{if_then_else_}
 use Rattle.domain.specs.declared.Limits.{Limits}
 use Rattle.domain.specs.Tables.{Domain, in-range}
-use Rattle.reception.specs.Reception.{limited, begun}
+use Rattle.domain.specs.Outcomes.{limited, begun}
 
 abbrev pub put-limits : Domain → Limits → Domain
 put-limits d l = record { limits = l; links = d .links; users = d .users; channels = d .channels; tokens = d .tokens }

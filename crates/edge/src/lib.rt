@@ -7,7 +7,7 @@ ghost use Rattle.domain.specs.Tables.{Domain, channels-of, domain-of};
 ghost use Rattle.domain.specs.Numbers.{replyNumber};
 ghost use Rattle.domain.specs.Effects.{settled};
 ghost use Rattle.domain.specs.Events.{opens, loses, hears};
-ghost use Rattle.reception.specs.Reception.{limited, begun, after, audience as audienceOf};
+ghost use Rattle.domain.specs.Outcomes.{limited, begun, after, audience as audienceOf};
 ghost use Rattle.understanding.specs.Understood.{understood};
 use domain::Limits;
 use domain::answer::Answer;
@@ -48,7 +48,7 @@ pub fn start<'a>(
         (begun «most_channels» «most_users» «most_tokens» (domain-of (limited (now (channels .entry)) (now (users .entry)) (now (tokens .entry))) (now (links .entry)) (now (names .entry)) (now (homes .entry)) (now (ids .entry)) (now (roles .entry))
         (now (chairs .entry)) (now (guests .entry)) (now (marks .entry)) (now (keys .entry)) (now (modes .entry)) (now (values .entry)))) ⌝ }
 {
-    let s = reception::starting::start(
+    let s = starting::start(
         most_channels,
         most_users,
         most_tokens,
@@ -98,7 +98,7 @@ pub fn open<'a>(
         ≡ after (domain-of (limited (now (channels .entry)) (now (users .entry)) (now (tokens .entry))) (now (links .entry)) (now (names .entry)) (now (homes .entry)) (now (ids .entry)) (now (roles .entry))
         (now (chairs .entry)) (now (guests .entry)) (now (marks .entry)) (now (keys .entry)) (now (modes .entry)) (now (values .entry))) (opens p) out) ⌝ }
 {
-    let reply = reception::starting::open(links, p);
+    let reply = starting::open(links, p);
     reply_number(reply) as u32
 }
 
@@ -216,19 +216,19 @@ pub fn audience<'a>(
 ) -> u32
     ensures { λ r. ⌜ r ≡ audienceOf (channels-of (now (ids .entry)) (now (roles .entry)) (now (chairs .entry)) (now (guests .entry)) (now (marks .entry))) c ⌝ }
 {
-    reception::asking::audience(ids, roles, chairs, guests, marks, c)
+    asking::audience(ids, roles, chairs, guests, marks, c)
 }
 
 // Users or tokens in use, by the column of their ids.
 pub fn used_of_64<'a>(ids: &'a [u16; 64]) -> usize
     ensures { λ r. ⌜ r ≡ used (now (ids .entry)) ⌝ }
 {
-    reception::asking::in_use(ids)
+    asking::in_use(ids)
 }
 
 // Channels in use, by the column of their ids.
 pub fn used_of_128<'a>(ids: &'a [u16; 128]) -> usize
     ensures { λ r. ⌜ r ≡ used (now (ids .entry)) ⌝ }
 {
-    reception::asking::in_use(ids)
+    asking::in_use(ids)
 }

@@ -47,10 +47,10 @@ fn put_refused(out: &mut [u8], filled: usize, reply: u64, message: &[u8]) -> usi
     }
     let a = put_octets_line(out, filled, message);
     if reply == 5 {
-        return phrasing::stop::put_stop(out, a, message);
+        return stopped::put_stop(out, a, message);
     }
     if reply == 8 {
-        return phrasing::stop::put_stop(out, a, message);
+        return stopped::put_stop(out, a, message);
     }
     a
 }

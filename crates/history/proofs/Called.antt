@@ -8,7 +8,7 @@ use Rattle.domain.specs.Numbers.{replyNumber}
 use Rattle.domain.specs.Tables.{Domain, put-links}
 use Rattle.domain.specs.Effects.{Settled, settled, answered}
 use Rattle.domain.specs.Events.{opens, loses, hears}
-use Rattle.reception.specs.Reception.{after}
+use Rattle.domain.specs.Outcomes.{after}
 use Rattle.understanding.specs.Understood.{understood}
 use Rattle.history.specs.Recorded.{opening, losing, message, Note, note}
 use Rattle.history.specs.Served.{Turn, event, Run, run, tables, notes, noting, noted, served, serves, Calls, no-more, then-calls}

@@ -16,7 +16,7 @@ use Rattle.domain.specs.Good.{Good}
 use Rattle.domain.specs.History.{History, full, told, held}
 use Rattle.domain.specs.Claims.{holder, Turn as EventTurn, past as event-past, from-fresh, same-holders as event-holders, only-holder as event-only, counted as event-counted, told-full as event-full}
 use Rattle.domain.proofs.holders.Demand.{demand as event-demand}
-use Rattle.reception.specs.Reception.{limited, turned as answer-turned, after}
+use Rattle.domain.specs.Outcomes.{limited, turned as answer-turned, after}
 use Rattle.understanding.specs.Understood.{read-as}
 use Rattle.history.specs.Recorded.{message, read-call}
 use Rattle.history.specs.Served.{Turn, event, Run, run, tables, serves, started}

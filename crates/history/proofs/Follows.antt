@@ -18,7 +18,7 @@ use Rattle.domain.specs.Claims.{formed, Turn as EventTurn, Run as EventRun, run
 use Rattle.domain.proofs.invariant.Sound.{between-is}
 use Rattle.domain.proofs.invariant.GoodIsSound.{good-sound}
 use Rattle.domain.proofs.invariant.Invariant.{grant-free, good-next}
-use Rattle.reception.specs.Reception.{turned as answer-turned, after}
+use Rattle.domain.specs.Outcomes.{turned as answer-turned, after}
 use Rattle.history.specs.Recorded.{read-note, read-records, read}
 use Rattle.history.specs.Served.{Turn, event, Bytewise, All-bytewise, Run, tables, notes, noted, served, serves}
 use Rattle.history.proofs.ReadBack.{Readables, read-back}

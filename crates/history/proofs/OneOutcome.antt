@@ -12,8 +12,8 @@ use Rattle.domain.specs.Numbers.{replyNumber}
 use Rattle.domain.specs.Tables.{Channels, Domain, channel-cells, token-cells, domain-of, fresh, put-links}
 use Rattle.domain.specs.Effects.{Settled, settled, answered}
 use Rattle.domain.specs.Events.{opens, loses, hears}
-use Rattle.reception.specs.declared.starting.Started.{Started}
-use Rattle.reception.specs.Reception.{after, limited, begun, audience}
+use Rattle.starting.specs.declared.Started.{Started}
+use Rattle.domain.specs.Outcomes.{after, limited, begun, audience}
 use Rattle.understanding.specs.Understood.{understood}
 use Rattle.provider.proofs.Replies.{same-reply, one-outcome}
 

@@ -10,7 +10,7 @@ use Rattle.domain.specs.Tables.{Domain, fresh, in-range}
 use Rattle.domain.specs.Claims.{from-fresh}
 use Rattle.domain.proofs.invariant.Fresh.{fresh-good}
 use Rattle.domain.proofs.invariant.Invariant.{good-run}
-use Rattle.reception.specs.Reception.{limited, begun}
+use Rattle.domain.specs.Outcomes.{limited, begun}
 use Rattle.history.specs.Recorded.{read}
 use Rattle.history.specs.Served.{Turn, All-bytewise, run, tables, notes, serves, started}
 use Rattle.history.specs.Always.{good-tables}

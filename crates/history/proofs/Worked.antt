@@ -4,7 +4,7 @@ use mathlib.Core.Option.{Option, none, some}
 use Prim.Native.Nat.{ℕ}
 use Rattle.domain.specs.History.{home, Gain, nothing, by-grab, gain}
 use Rattle.domain.proofs.Opened.{opened}
-use Rattle.reception.specs.Reception.{turned, after, begun}
+use Rattle.domain.specs.Outcomes.{turned, after, begun}
 use Rattle.understanding.specs.Understood.{number-in, read-as, understood}
 use Rattle.history.specs.Recorded.{read-call, size, is-record, inside, carried, read-some, read-records, read-note, read}
 use Rattle.history.specs.Served.{event, tables, notes, served, serves, started}

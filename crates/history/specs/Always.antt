@@ -8,7 +8,7 @@ use Rattle.domain.specs.Tables.{Domain}
 use Rattle.domain.specs.Effects.{Settled}
 use Rattle.domain.specs.Good.{Good}
 use Rattle.domain.specs.Events.{complaint}
-use Rattle.reception.specs.Reception.{begun, after}
+use Rattle.domain.specs.Outcomes.{begun, after}
 use Rattle.history.specs.Recorded.{Call, opening, losing, message}
 use Rattle.history.specs.Served.{event, Turn, Bytewise, All-bytewise, tables, noted, serves, started}
 

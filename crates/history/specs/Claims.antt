@@ -12,7 +12,7 @@ use Rattle.messages.specs.Named.{Message, TGrq, TIrq, heard}
 use Rattle.domain.specs.Tables.{Domain}
 use Rattle.domain.specs.History.{History, full, told, home, gain, held, alone, busy, count}
 use Rattle.domain.specs.Claims.{holder}
-use Rattle.reception.specs.Reception.{begun}
+use Rattle.domain.specs.Outcomes.{begun}
 use Rattle.history.specs.Recorded.{message, read-note, read}
 use Rattle.history.specs.Served.{Turn, All-bytewise, Run, run, tables, notes, noted, serves, started, Calls}
 

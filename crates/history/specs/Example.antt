@@ -3,7 +3,7 @@ use Prim.Native.Nat.{ℕ}
 use mathlib.Core.List.{List, [], _∷_}
 use lib.ListN.{replicate}
 use Rattle.domain.specs.Tables.{fresh}
-use Rattle.reception.specs.Reception.{limited}
+use Rattle.domain.specs.Outcomes.{limited}
 use Rattle.history.specs.Recorded.{opening, losing, message, Note, note}
 use Rattle.history.specs.Served.{Turn, Run, serves, started}
 

@@ -8,7 +8,7 @@ use Rattle.domain.specs.declared.answer.Answer.{Answer}
 use Rattle.domain.specs.Tables.{Domain}
 use Rattle.domain.specs.Effects.{Settled, answered}
 use Rattle.domain.specs.Events.{Event, opens, loses, hears}
-use Rattle.reception.specs.Reception.{begun, after}
+use Rattle.domain.specs.Outcomes.{begun, after}
 use Rattle.understanding.specs.Understood.{understood}
 use Rattle.history.specs.Recorded.{Call, opening, losing, message, Note, note}
 

@@ -1,3 +1,2 @@
-// Messages in words, and where the reading of one stopped.
+// Messages in words.
 pub mod message;
-pub mod stop;

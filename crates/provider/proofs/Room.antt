@@ -37,7 +37,7 @@ use Rattle.domain.specs.Events.{Reading, reads, refuses, Event, opens, loses, h
 use Rattle.farewell.proofs.Rounds.{in-order-length, each-length}
 use Rattle.farewell.proofs.Parts.{farewell-length}
 use Rattle.understanding.specs.Understood.{number-in, read-as, understood}
-use Rattle.reception.proofs.Rejecting.{rejection-length}
+use Rattle.refusing.proofs.Rejecting.{rejection-length}
 use Rattle.provider.proofs.Replies.{Fair, understood-fair}
 
 -- the records of an effect take no more

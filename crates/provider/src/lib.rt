@@ -6,7 +6,7 @@ ghost use Rattle.domain.specs.declared.Limits.{Limits};
 ghost use Rattle.domain.specs.Tables.{domain-of};
 ghost use Rattle.domain.specs.Effects.{answered};
 ghost use Rattle.domain.specs.Events.{loses, hears};
-ghost use Rattle.reception.specs.Reception.{after};
+ghost use Rattle.domain.specs.Outcomes.{after};
 ghost use Rattle.understanding.specs.Understood.{understood};
 use domain::answer::Answer;
 use domain::numbers::Reply;
@@ -33,7 +33,7 @@ pub fn lose(
         (now (chairs .entry)) (now (guests .entry)) (now (marks .entry)) (now (keys .entry)) (now (modes .entry)) (now (values .entry))) (loses p) (now (out .entry))) ⌝ }
 {
     let open = *links;
-    if !reception::refusing::is_open(open, p) {
+    if !refusing::is_open(open, p) {
         return Answer {
             reply: Reply::NotOpen,
             sent: 0,
@@ -80,7 +80,7 @@ pub fn message(
         (now (chairs .entry)) (now (guests .entry)) (now (marks .entry)) (now (keys .entry)) (now (modes .entry)) (now (values .entry))) (hears p (understood (now (octets .entry)))) (now (out .entry)) ⌝ }
 {
     let open = *links;
-    if !reception::refusing::is_open(open, p) {
+    if !refusing::is_open(open, p) {
         return Answer {
             reply: Reply::NotOpen,
             sent: 0,
@@ -90,7 +90,7 @@ pub fn message(
     let u = understanding::understand(octets, &mut listed);
     let reply = u.reply;
     if states::numbers::reply_number(reply) != 0 {
-        return reception::refusing::refuse(p, reply, octets, out);
+        return refusing::refuse(p, reply, octets, out);
     }
     requests::request(
         limits,

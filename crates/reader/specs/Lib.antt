@@ -1,3 +1,3 @@
 pub mod Held
 pub mod Reading
-pub mod Stepping
+pub mod Fields

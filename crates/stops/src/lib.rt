@@ -5,6 +5,7 @@ ghost use lib.ListN.{length};
 ghost use Rattle.messages.specs.Limits.{message-limit};
 ghost use Rattle.reader.specs.Reading.{decodeOf};
 ghost use Rattle.stops.specs.Stops.{refusalOf};
+use cursor::field_of;
 use messages::MESSAGE_LIMIT;
 use messages::count_of;
 use messages::form_of;
@@ -15,7 +16,6 @@ use octets::left_at;
 use octets::read_id;
 use octets::read_length;
 use octets::wide;
-use reader::field_of;
 
 // The part of a message: its number, a field by its place, the list or string behind the fields, or the end.
 pub enum Part {

@@ -58,7 +58,7 @@ fn event(
 ) -> Answer {
     match kind {
         Kind::Open => Answer {
-            reply: reception::starting::open(links, connection),
+            reply: starting::open(links, connection),
             sent: 0,
         },
         Kind::Loss => provider::lose(
@@ -172,9 +172,9 @@ fn report(taken: Taken, names: &[u16; 64], ids: &[u16; 128], keys: &[u16; 64]) -
     Report {
         reply: taken.reply,
         sent: taken.sent as u64,
-        users: reception::asking::in_use(names) as u64,
-        channels: reception::asking::in_use(ids) as u64,
-        tokens: reception::asking::in_use(keys) as u64,
+        users: asking::in_use(names) as u64,
+        channels: asking::in_use(ids) as u64,
+        tokens: asking::in_use(keys) as u64,
     }
 }
 
@@ -418,7 +418,7 @@ pub fn run(form: Form) {
     let mut old_keys = [0u16; 64];
     let mut old_modes = [0u8; 64];
     let mut old_values = [0u64; 64];
-    let started = reception::starting::start(
+    let started = starting::start(
         128,
         64,
         64,

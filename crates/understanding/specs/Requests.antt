@@ -23,22 +23,18 @@ private-request number a b ids =
     else if eqb number 21 then CArq a b ids
     else CErq a b ids
 
-unfoldable pub channel-request : (number a b : ℕ) (ids : List ℕ) → Message
-channel-request number a b ids =
-    if eqb number 14 then CJrq a b
-    else if eqb number 16 then CLrq ids
-    else private-request number a b ids
-
 -- EDrq's values ask for nothing; RJum asks for what DPum does
-unfoldable pub user-request : (number a : ℕ) (ids : List ℕ) → Message
-user-request number a ids =
+unfoldable pub user-request : (number a b : ℕ) (ids : List ℕ) → Message
+user-request number a b ids =
     if eqb number 1 then EDrq 0 0
     else if eqb number 10 then AUrq
     else if eqb number 12 then DUrq (a % 8) ids
+    else if eqb number 14 then CJrq a b
+    else if eqb number 16 then CLrq ids
     else DPum a
 
 unfoldable pub request : (number a b c : ℕ) (ids : List ℕ) → Message
 request number a b c ids =
     if ltb 28 number then token-request number a b c
-    else if ltb 12 number then channel-request number a b ids
-    else user-request number a ids
+    else if ltb 16 number then private-request number a b ids
+    else user-request number a b ids

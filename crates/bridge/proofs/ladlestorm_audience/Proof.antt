@@ -31,7 +31,7 @@ use denote.Triple.Statement.{Contract, Triple}
 use denote.Triple.Call.{calls-at}
 use denote.Triple.Table.{entered, cited}
 use denote.Triple.Walked.{Stays, walkOf, walked, walk-meets}
-use Rattle.reception.specs.Reception.{audience}
+use Rattle.domain.specs.Outcomes.{audience}
 use Rattle.bridge.specs.Held.{domain-in}
 use Rattle.bridge.specs.declared.Domain.{Domain}
 use Rattle.bridge.proofs.Fields.{R, fields, held}

@@ -32,7 +32,7 @@ use denote.Triple.Walked.{Stays, stay-ref, walkOf, goes-ref, walked, walk-meets}
 use denote.Signature.{plain}
 use Rattle.domain.specs.Effects.{settled}
 use Rattle.domain.specs.Events.{opens}
-use Rattle.reception.specs.Reception.{after}
+use Rattle.domain.specs.Outcomes.{after}
 use Rattle.bridge.specs.Held.{domain-in}
 use Rattle.bridge.specs.declared.Domain.{Domain}
 use Rattle.bridge.proofs.Fields.{R, fields, held}

@@ -31,7 +31,7 @@ use denote.Triple.Table.{entered, cited}
 use denote.Triple.Walked.{Stays, stay-ref, walkOf, goes-ref, walked, walk-meets}
 use denote.Signature.{plain}
 use Rattle.domain.specs.Tables.{Domain as All}
-use Rattle.reception.specs.Reception.{begun}
+use Rattle.domain.specs.Outcomes.{begun}
 use Rattle.bridge.specs.Held.{domain-in}
 use Rattle.bridge.specs.declared.Domain.{Domain}
 use Rattle.bridge.proofs.Fields.{R, fields, held}

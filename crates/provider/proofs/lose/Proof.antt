@@ -1,5 +1,5 @@
 use mathlib.Core.Path.{_∙_}
-use Rattle.reception.proofs.Turning.{not-true, not-false, shut-loses, open-loses}
+use Rattle.domain.proofs.Turning.{not-true, not-false, shut-loses, open-loses}
 use borrow.Author.Needs.{needs}
 use Rattle.provider.proofs.lose.Statement.{statement}
 use Rattle.provider.proofs.lose.Tie as tie

@@ -1,7 +1,7 @@
 use mathlib.Core.Path.{sym, _∙_}
 use Rattle.understanding.specs.Understood.{understood}
 use Rattle.understanding.specs.Readings.{requested}
-use Rattle.reception.proofs.Turning.{not-true, not-false, shut-hears, open-served, open-refused}
+use Rattle.domain.proofs.Turning.{not-true, not-false, shut-hears, open-served, open-refused}
 use Rattle.understanding.proofs.Understanding.{refused-asks, requested-asks}
 use borrow.Author.Needs.{needs}
 use Rattle.provider.proofs.message.Statement.{statement}

@@ -1,4 +1,4 @@
-use Rattle.reader.specs.Stepping.{fieldAt}
+use Rattle.reader.specs.Fields.{fieldAt}
 use borrow.Author.Tests.{le-leb, lt-leb}
 use borrow.Author.Needs.{needs}
 use Rattle.reader.proofs.field_at.Statement.{statement}
