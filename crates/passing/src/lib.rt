@@ -9,12 +9,12 @@ ghost use Rattle.places.specs.Places.{find};
 ghost use Rattle.messages.specs.Named.{Message};
 ghost use Rattle.records.specs.Records.{to, tell as tellOf, wire};
 ghost use Rattle.domain.specs.Numbers.{replyNumber};
-ghost use Rattle.domain.specs.Tables.{Channels, Tokens, users-of, tokens-of, at-limit};
-ghost use Rattle.domain.specs.Effects.{Effect, settle, answered, done};
+ghost use Rattle.domain.specs.Tables.{Channels, Tokens, Domain, put-tokens, users-of, tokens-of, at-limit};
+ghost use Rattle.domain.specs.Effects.{Effect, settle, answered, done, within};
 ghost use Rattle.domain.specs.Passing.{please as pleaseOf, test as testOf};
-ghost use Rattle.domain.specs.Events.{act};
+ghost use Rattle.domain.specs.Events.{act, tokens-full};
 ghost use Rattle.domain.specs.Joined.{joined};
-ghost use Rattle.understanding.specs.Requests.{token-request};
+ghost use Rattle.understanding.specs.Requests.{pass-request, token-request};
 ghost use Rattle.tables.specs.Numbered.{place};
 ghost use Rattle.deeds.specs.Deeds.{Tells, Does, fated, asked};
 use deeds::Ask;
@@ -240,6 +240,47 @@ fn tell(out: &mut [u8], mask: u16, m: &[u8]) -> Answer
     }
 }
 
+// Who asks for what, of which token.
+struct Wish {
+    user: u16,
+    token: u16,
+    ask: Ask,
+}
+
+// What a request asks for that is about to change a token, by its number.
+fn wish_of(number: u32, first: u16, second: u16, third: u16) -> Wish
+    ensures { λ r. ⌜ ((new : ℕ) (d : Domain) (p : ℕ) → act new d p (pass-request number first second third)
+        ≡ within (put-tokens d) (asked (r .ask) (tokens-full d) (d .users) (d .tokens) p (r .user) (r .token))) ⌝ }
+{
+    match number {
+        29 => Wish {
+            user: first,
+            token: second,
+            ask: Ask::Grab,
+        },
+        31 => Wish {
+            user: first,
+            token: second,
+            ask: Ask::Inhibit,
+        },
+        33 => Wish {
+            user: first,
+            token: second,
+            ask: Ask::Offer(third),
+        },
+        35 => Wish {
+            user: second,
+            token: third,
+            ask: Ask::Answer((first % 16) as u8),
+        },
+        _ => Wish {
+            user: first,
+            token: second,
+            ask: Ask::Release,
+        },
+    }
+}
+
 // Each of these requests, by its number.
 pub fn request(
     limits: Limits,
@@ -261,77 +302,26 @@ pub fn request(
         (act new (joined limits m (users-of (now (names .entry)) (now (homes .entry))) cs (tokens-of (now (keys .entry)) (now (modes .entry)) (now (values .entry))))
         p (token-request number first second third)) (now (out .entry))) ⌝ }
 {
-    let most = limits.tokens;
-    match number {
-        29 => pass(
-            names,
-            homes,
-            keys,
-            modes,
-            values,
-            most,
-            p,
-            first,
-            second,
-            Ask::Grab,
-            out,
-        ),
-        31 => pass(
-            names,
-            homes,
-            keys,
-            modes,
-            values,
-            most,
-            p,
-            first,
-            second,
-            Ask::Inhibit,
-            out,
-        ),
-        33 => pass(
-            names,
-            homes,
-            keys,
-            modes,
-            values,
-            most,
-            p,
-            first,
-            second,
-            Ask::Offer(third),
-            out,
-        ),
-        35 => {
-            let result = (first % 16) as u8;
-            pass(
-                names,
-                homes,
-                keys,
-                modes,
-                values,
-                most,
-                p,
-                second,
-                third,
-                Ask::Answer(result),
-                out,
-            )
-        }
-        37 => please(names, homes, keys, modes, values, p, first, second, out),
-        39 => pass(
-            names,
-            homes,
-            keys,
-            modes,
-            values,
-            most,
-            p,
-            first,
-            second,
-            Ask::Release,
-            out,
-        ),
-        _ => test(names, homes, keys, modes, values, p, first, second, out),
+    if 40 < number {
+        return test(names, homes, keys, modes, values, p, first, second, out);
     }
+    if number == 37 {
+        return please(names, homes, keys, modes, values, p, first, second, out);
+    }
+    let most = limits.tokens;
+    let w = wish_of(number, first, second, third);
+    let ask = w.ask;
+    pass(
+        names,
+        homes,
+        keys,
+        modes,
+        values,
+        most,
+        p,
+        w.user,
+        w.token,
+        ask,
+        out,
+    )
 }

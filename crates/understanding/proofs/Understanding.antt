@@ -33,7 +33,7 @@ use Rattle.domain.specs.Effects.{Effect}
 use Rattle.domain.specs.Events.{Reading, reads, refuses, act, answers, ends, sends, complaint}
 use Rattle.understanding.specs.declared.Understood.{Understood}
 use Rattle.understanding.specs.Understood.{number-in, read-as, understood}
-use Rattle.understanding.specs.Requests.{token-request, private-request, user-request, request}
+use Rattle.understanding.specs.Requests.{pass-request, token-request, private-request, user-request, request}
 use Rattle.understanding.specs.Readings.{reply-for, requested, asks, Understands, Requests, Asked}
 
 -- ---- the tests, in their order
@@ -123,7 +123,7 @@ request-of : Message → Message
 request-of m = request (fields m .number) (value-of m 0) (value-of m 1) (value-of m 2) (list-of m)
 
 request-act : (new : ℕ) (d : Domain) (p : ℕ) (m : Message) → formed m ≡ true → is-served (fields m .number) ≡ true → act new d p (request-of m) ≡ act new d p m
-unfolding request-of value-of list-of request token-request private-request user-request fields is-served entry tailAt packedAt packed act
+unfolding request-of value-of list-of request token-request pass-request private-request user-request fields is-served entry tailAt packedAt packed act
 request-act new d p (EDrq h i) f s = refl
 request-act new d p (DPum n) f s = refl
 request-act new d p (RJum n os) f s = refl

@@ -6,15 +6,19 @@ use lib.Dec.{eqb, ltb}
 use Rattle.places.specs.Sets.{if_then_else_}
 use Rattle.messages.specs.Named.{Message, EDrq, DPum, AUrq, DUrq, CJrq, CLrq, CCrq, CDrq, CArq, CErq, TGrq, TIrq, TVrq, TVrs, TPrq, TRrq, TTrq}
 
-unfoldable pub token-request : (number a b c : ℕ) → Message
-token-request number a b c =
+unfoldable pub pass-request : (number a b c : ℕ) → Message
+pass-request number a b c =
     if eqb number 29 then TGrq a b
     else if eqb number 31 then TIrq a b
     else if eqb number 33 then TVrq a b c
     else if eqb number 35 then TVrs (a % 16) b c
+    else TRrq a b
+
+unfoldable pub token-request : (number a b c : ℕ) → Message
+token-request number a b c =
+    if ltb 40 number then TTrq a b
     else if eqb number 37 then TPrq a b
-    else if eqb number 39 then TRrq a b
-    else TTrq a b
+    else pass-request number a b c
 
 unfoldable pub private-request : (number a b : ℕ) (ids : List ℕ) → Message
 private-request number a b ids =
