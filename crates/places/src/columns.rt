@@ -44,11 +44,65 @@ fn skipped(ids: &[u16], x: u16) -> usize
     i
 }
 
+// Four, two, one places from i on are passed where none of them holds x: a choice for the compiler, and no branch.
+fn past_four(ids: &[u16], i: usize, x: u16) -> usize
+    requires { ⌜ i + 4 ≤ length (now ids) ⌝ }
+    ensures { λ r. ⌜ (r ≤ i + 4) × (firstIn i x (drop i (now (ids .entry))) ≡ firstIn r x (drop r (now (ids .entry)))) ⌝ }
+{
+    if of_four(ids, i, x) { i } else { i + 4 }
+}
+
+fn past_two(ids: &[u16], i: usize, x: u16) -> usize
+    requires { ⌜ i + 2 ≤ length (now ids) ⌝ }
+    ensures { λ r. ⌜ (r ≤ i + 2) × (firstIn i x (drop i (now (ids .entry))) ≡ firstIn r x (drop r (now (ids .entry)))) ⌝ }
+{
+    if of_two(ids, i, x) { i } else { i + 2 }
+}
+
+fn past_one(ids: &[u16], i: usize, x: u16) -> usize
+    requires { ⌜ i + 1 ≤ length (now ids) ⌝ }
+    ensures { λ r. ⌜ (r ≤ i + 1) × (firstIn i x (drop i (now (ids .entry))) ≡ firstIn r x (drop r (now (ids .entry)))) ⌝ }
+{
+    if ids[i] == x { i } else { i + 1 }
+}
+
+// The same among eight places.
+fn near(ids: &[u16], i: usize, x: u16) -> usize
+    requires { ⌜ i + 8 ≤ length (now ids) ⌝ }
+    ensures { λ r. ⌜ (r ≤ length (now (ids .entry))) × (firstIn i x (drop i (now (ids .entry))) ≡ firstIn r x (drop r (now (ids .entry)))) ⌝ }
+{
+    let a = past_four(ids, i, x);
+    let b = past_two(ids, a, x);
+    past_one(ids, b, x)
+}
+
+// x stands at the first place: most often it does, in a small conference. This only chooses a way.
+fn at_start(ids: &[u16], x: u16) -> bool {
+    if 0 < ids.len() {
+        return ids[0] == x;
+    }
+    false
+}
+
+// A place that x does not stand before.
+fn passed(ids: &[u16], x: u16) -> usize
+    ensures { λ r. ⌜ (r ≤ length (now (ids .entry))) × (firstIn 0 x (now (ids .entry)) ≡ firstIn r x (drop r (now (ids .entry)))) ⌝ }
+{
+    if at_start(ids, x) {
+        return 0;
+    }
+    let i = skipped(ids, x);
+    if 8 <= ids.len() - i {
+        return near(ids, i, x);
+    }
+    i
+}
+
 // The first place that holds x. The ids in use stand low, so going up ends soon.
 fn first(ids: &[u16], x: u16) -> usize
     ensures { λ r. ⌜ r ≡ number (length (now (ids .entry))) (firstIn 0 x (now (ids .entry))) ⌝ }
 {
-    let mut i = skipped(ids, x);
+    let mut i = passed(ids, x);
     while i < ids.len() {
         if ids[i] == x {
             return i;
@@ -137,10 +191,7 @@ pub fn used_from(ids: &[u16], from: usize) -> usize
 fn in_use(x: u16) -> u16
     ensures { λ r. ⌜ r ≡ usedIn (x ∷ []) ⌝ }
 {
-    if x == 0 {
-        return 0;
-    }
-    1
+    if x == 0 { 0 } else { 1 }
 }
 
 // How many of some places are in use. A short number counts them: more places are then looked at together.
