@@ -69,16 +69,7 @@ stands-found ids x i z e = go (find ids x) refl
     go (At j) q = refl
     go Nowhere q = absurd (find-none ids x q z i e)
 
--- whether it is found, by the code's answer; and where
-module _ (ids : List ℕ) (x r : ℕ) (is : r ≡ number (length ids) (find ids x)) where
-  pub seen-found : r < length ids → found (find ids x) ≡ true
-  unfolding found
-  seen-found l = ap found (find-at ids x r is l)
-
-  pub unseen : length ids ≤ r → found (find ids x) ≡ false
-  unfolding found
-  unseen l = ap found (find-nowhere ids x r is l)
-
+-- where it is found, and that it is not
 pub found-somewhere : (p : Place) → found p ≡ true → (i : ℕ) × (p ≡ At i)
 unfolding found
 found-somewhere (At i) e = (i, refl)

@@ -16,6 +16,7 @@ pub mod Order
 -- the code's answers and loops
 pub mod Answers
 pub mod Turns
+pub mod Gaps
 pub mod Sweeps
 pub mod Kept
 pub mod Firsts

@@ -1,7 +1,7 @@
 -- Members of a list of ids: by their places, of what is kept of it, and each once.
 use mathlib.Core.Path.{_≡_, refl, sym, ap, _∙_}
 use mathlib.Core.Bool.{Bool, true, false, not, _&&_, _||_, false≢true, or-true, and-false, and-true}
-use mathlib.Core.List.{List, [], _∷_}
+use mathlib.Core.List.{List, [], _∷_, _++_}
 use Prim.Native.Nat.{ℕ, zero, suc, _<_}
 use native.Mathlib.Omega.{arith}
 use native.Mathlib.Nat.{le-of-suc-le-suc}
@@ -21,6 +21,23 @@ pub member-where : (xs : List ℕ) (x : ℕ) → member x xs ≡ true → (j : �
 unfolding member any
 member-where [] x h = absurd (false≢true h)
 member-where (y ∷ xs) x h = or-elim (eqb x y) (member x xs) h (λ e. (0, sym (eqb-true x y e))) (λ k. let r = member-where xs x k in (suc (r .0), r .1))
+
+-- where none of the places holds it, it is no member
+pub member-none : (xs : List ℕ) (x : ℕ) → ((j : ℕ) → getD xs j 0 ≡ x → ⊥) → member x xs ≡ false
+member-none xs x f = go (member x xs) refl
+  where
+    go : (b : Bool) → member x xs ≡ b → member x xs ≡ false
+    go true e = let r = member-where xs x e in absurd (f (r .0) (r .1))
+    go false e = e
+
+pub member-append : (x : ℕ) (xs ys : List ℕ) → member x (xs ++ ys) ≡ (member x xs || member x ys)
+unfolding member any
+member-append x [] ys = refl
+member-append x (y ∷ xs) ys = go (eqb x y) (member-append x xs ys)
+  where
+    go : (b : Bool) → member x (xs ++ ys) ≡ (member x xs || member x ys) → (b || member x (xs ++ ys)) ≡ ((b || member x xs) || member x ys)
+    go true e = refl
+    go false e = e
 
 pub member-keep : (f : ℕ → Bool) (u : ℕ) (xs : List ℕ) → member u (keep f xs) ≡ (f u && member u xs)
 unfolding member any keep

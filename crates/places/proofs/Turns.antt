@@ -3,7 +3,6 @@ use mathlib.Core.Path.{_≡_, refl, sym, ap, _∙_}
 use mathlib.Core.Bool.{Bool, true, false}
 use mathlib.Core.List.{List, [], _∷_, _++_}
 use Prim.Native.Nat.{ℕ, zero, suc, _+_, _-_, _≤_, _<_, zero-le}
-use native.Mathlib.Nat.{add-zero, add-suc}
 use native.Mathlib.Numerals.{add-one}
 use native.Mathlib.Omega.{arith}
 use lib.Dec.{ltb}
@@ -11,9 +10,8 @@ use lib.ListN.{length, getD, take, drop, drop-of-length-le, length-append, lengt
 use lib.Seq.{drop-cons, take-suc, take-all, take-add}
 use borrow.Author.Tests.{eq-eqb, ne-eqb, lt-ltb, le-ltb, ltb-true, ltb-false}
 use Rattle.places.specs.Sets.{if_then_else_, keep, any, upto, member, has, listed}
-use Rattle.places.specs.Places.{Place, At, Nowhere, InRow, find, used, lesser, next, rising, unused}
+use Rattle.places.specs.Places.{Place, At, Nowhere, find, used, lesser, next, rising, unused}
 use Rattle.places.proofs.Order.{keep-le}
-use Rattle.places.proofs.Answers.{stands-found, found-somewhere}
 
 module _ (f : ℕ → Bool) where
   pub keep-append : (xs ys : List ℕ) → keep f (xs ++ ys) ≡ keep f xs ++ keep f ys
@@ -185,15 +183,6 @@ module _ (n : ℕ) (ids : List ℕ) (x : ℕ) where
   pub unused-later : (i : ℕ) → find ids x ≡ At i → unused (suc n) ids x ≡ unused n ids (suc x)
   unfolding unused
   unused-later i e = ap (λ (p : Place). elim p as (λ (_ : Place). ℕ) [ Nowhere ↦ x | At j ↦ unused n ids (suc x) ]) e
-
--- ids in a row are tried in vain
-pub unused-past : (ids : List ℕ) (x i : ℕ) → 0 < x → (h n : ℕ) → InRow ids i h x 1 → unused (n + h) ids x ≡ unused n ids (x + h)
-unused-past ids x i z zero n row = rw (add-zero n, add-zero x) refl
-unused-past ids x i z (suc h) n row =
-    let p : n + suc h ≡ suc n + h = omega arith in
-    let here : getD ids (i + h) 0 ≡ x + h = omega (arith, row h (omega arith)) in
-    let there = found-somewhere (find ids (x + h)) (stands-found ids (x + h) (i + h) (omega arith) here) in
-    rw (p, add-suc x h) (unused-past ids x i z h (suc n) (λ k l. row k (omega arith)) ∙ unused-later n ids (x + h) (there .0) (there .1))
 
 -- ---- the ids in order
 

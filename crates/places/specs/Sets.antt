@@ -1,5 +1,6 @@
 -- Choices, lists and masks. A mask is a number that stands for a set of small numbers: its binary digit k is 1 where k is in the set.
-use Prim.Native.Nat.{ℕ, zero, suc, _+_, _*_, _/_, _%_, _^_}
+use Prim.Native.Nat.{ℕ, zero, suc, _+_, _*_, _/_, _%_, _^_, _≤_, _<_}
+use mathlib.Core.Path.{_≡_}
 use mathlib.Core.Bool.{Bool, true, false, not, _&&_, _||_}
 use mathlib.Core.List.{List, [], _∷_, _++_}
 use lib.Dec.{eqb}
@@ -94,3 +95,13 @@ only w k = those w (eqb k)
 -- the set, ascending
 unfoldable pub listed : ℕ → ℕ → List ℕ
 listed w m = keep (has m) (below w)
+
+-- the mask of those of the 64 ids above `low` that are in a list
+unfoldable pub marked : (low : ℕ) (xs : List ℕ) → ℕ
+marked low xs = those seats λ k. member (low + 1 + k) xs
+
+-- r is the first number below n that does not pass, or n
+pub record Gap (f : (ℕ → Bool)) (n r : ℕ) : Type 0 where
+  pub within : r ≤ n
+  pub before : (k : ℕ) → k < r → f k ≡ true
+  pub here : r < n → f r ≡ false

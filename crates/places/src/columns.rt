@@ -4,9 +4,10 @@ ghost use mathlib.Core.Bool.{true, false};
 ghost use mathlib.Core.List.{[], _∷_};
 ghost use Prim.Native.Nat.{ℕ, _+_, _-_, _*_, _<_, _≤_, min};
 ghost use lib.Dec.{eqb};
-ghost use lib.ListN.{length, drop, getD};
-ghost use Rattle.places.specs.Sets.{if_then_else_, member as memberOf};
-ghost use Rattle.places.specs.Places.{first as firstIn, busy, InRow, find as findIn, found, spare as spareIn, used as usedIn, next as nextIn, number, picked, unused as unusedIn};
+ghost use lib.ListN.{length, take, drop, getD};
+ghost use Rattle.places.specs.Sets.{if_then_else_, member as memberOf, has as hasIn, marked, Gap};
+ghost use Rattle.places.specs.Places.{first as firstIn, busy, InRow, find as findIn, spare as spareIn, used as usedIn, next as nextIn, number, picked, unused as unusedIn};
+use crate::masks;
 
 // One of the two, four, eight places from i on holds x. They are looked at together: no branch stands between them.
 fn of_two(ids: &[u16], i: usize, x: u16) -> bool
@@ -44,11 +45,65 @@ fn skipped(ids: &[u16], x: u16) -> usize
     i
 }
 
+// Four, two, one places from i on are passed where none of them holds x: a choice for the compiler, and no branch.
+fn past_four(ids: &[u16], i: usize, x: u16) -> usize
+    requires { ⌜ i + 4 ≤ length (now ids) ⌝ }
+    ensures { λ r. ⌜ (r ≤ i + 4) × (firstIn i x (drop i (now (ids .entry))) ≡ firstIn r x (drop r (now (ids .entry)))) ⌝ }
+{
+    if of_four(ids, i, x) { i } else { i + 4 }
+}
+
+fn past_two(ids: &[u16], i: usize, x: u16) -> usize
+    requires { ⌜ i + 2 ≤ length (now ids) ⌝ }
+    ensures { λ r. ⌜ (r ≤ i + 2) × (firstIn i x (drop i (now (ids .entry))) ≡ firstIn r x (drop r (now (ids .entry)))) ⌝ }
+{
+    if of_two(ids, i, x) { i } else { i + 2 }
+}
+
+fn past_one(ids: &[u16], i: usize, x: u16) -> usize
+    requires { ⌜ i + 1 ≤ length (now ids) ⌝ }
+    ensures { λ r. ⌜ (r ≤ i + 1) × (firstIn i x (drop i (now (ids .entry))) ≡ firstIn r x (drop r (now (ids .entry)))) ⌝ }
+{
+    if ids[i] == x { i } else { i + 1 }
+}
+
+// The same among eight places.
+fn near(ids: &[u16], i: usize, x: u16) -> usize
+    requires { ⌜ i + 8 ≤ length (now ids) ⌝ }
+    ensures { λ r. ⌜ (r ≤ length (now (ids .entry))) × (firstIn i x (drop i (now (ids .entry))) ≡ firstIn r x (drop r (now (ids .entry)))) ⌝ }
+{
+    let a = past_four(ids, i, x);
+    let b = past_two(ids, a, x);
+    past_one(ids, b, x)
+}
+
+// x stands at the first place: most often it does, in a small conference. This only chooses a way.
+fn at_start(ids: &[u16], x: u16) -> bool {
+    if 0 < ids.len() {
+        return ids[0] == x;
+    }
+    false
+}
+
+// A place that x does not stand before.
+fn passed(ids: &[u16], x: u16) -> usize
+    ensures { λ r. ⌜ (r ≤ length (now (ids .entry))) × (firstIn 0 x (now (ids .entry)) ≡ firstIn r x (drop r (now (ids .entry)))) ⌝ }
+{
+    if at_start(ids, x) {
+        return 0;
+    }
+    let i = skipped(ids, x);
+    if 8 <= ids.len() - i {
+        return near(ids, i, x);
+    }
+    i
+}
+
 // The first place that holds x. The ids in use stand low, so going up ends soon.
 fn first(ids: &[u16], x: u16) -> usize
     ensures { λ r. ⌜ r ≡ number (length (now (ids .entry))) (firstIn 0 x (now (ids .entry))) ⌝ }
 {
-    let mut i = skipped(ids, x);
+    let mut i = passed(ids, x);
     while i < ids.len() {
         if ids[i] == x {
             return i;
@@ -137,10 +192,7 @@ pub fn used_from(ids: &[u16], from: usize) -> usize
 fn in_use(x: u16) -> u16
     ensures { λ r. ⌜ r ≡ usedIn (x ∷ []) ⌝ }
 {
-    if x == 0 {
-        return 0;
-    }
-    1
+    if x == 0 { 0 } else { 1 }
 }
 
 // How many of some places are in use. A short number counts them: more places are then looked at together.
@@ -264,19 +316,6 @@ pub fn member(ids: &[u16], x: u16) -> bool
     false
 }
 
-// A place of x: the one it is looked for first, if it stands there, else the one found; the length is nowhere.
-fn seek(ids: &[u16], hint: usize, x: u16) -> usize
-    requires { ⌜ 0 < x ⌝ }
-    ensures { λ r. ⌜ (r ≤ length (now (ids .entry))) × (r < length (now (ids .entry)) → found (findIn (now (ids .entry)) x) ≡ true) × (length (now (ids .entry)) ≤ r → found (findIn (now (ids .entry)) x) ≡ false) ⌝ }
-{
-    if hint < ids.len() {
-        if ids[hint] == x {
-            return hint;
-        }
-    }
-    find(ids, x)
-}
-
 // Of n places those that can hold an id tried, each at its own place.
 fn tried(n: usize) -> usize
     ensures { λ r. ⌜ (r ≤ n) × (r ≤ 128) ⌝ }
@@ -286,7 +325,7 @@ fn tried(n: usize) -> usize
 
 // How many places from the first on hold the ids from 1001 on, each its own, passed eight at a time.
 fn in_row(ids: &[u16]) -> usize
-    ensures { λ r. ⌜ (r ≤ 128) × InRow (now (ids .entry)) 0 r 1001 1 ⌝ }
+    ensures { λ r. ⌜ (r ≤ 128) × (r ≤ length (now (ids .entry))) × InRow (now (ids .entry)) 0 r 1001 1 ⌝ }
 {
     let n = tried(ids.len());
     let mut i = 0;
@@ -299,23 +338,79 @@ fn in_row(ids: &[u16]) -> usize
     i
 }
 
-// The lowest id from 1001 that no place has, of 129 tried. An id is looked for behind the last: new ids come in their order.
+// The mark of an id in the mask of the 64 ids above `low`: none where it is not one of them. A choice, and no branch.
+fn mark(low: u16, x: u16) -> u64
+    requires { ⌜ low + 64 ≤ 65535 ⌝ }
+    ensures { λ r. ⌜ r ≡ marked low (x ∷ []) ⌝ }
+{
+    let k = behind(low, x);
+    if k < 64 { 1u64 << k } else { 0 }
+}
+
+// The marks of all places: one by one; of eight that may be free; eight at a time.
+fn marks_of(ids: &[u16], low: u16) -> u64
+    requires { ⌜ low + 64 ≤ 65535 ⌝ }
+    ensures { λ r. ⌜ r ≡ marked low (now (ids .entry)) ⌝ }
+{
+    let mut m: u64 = 0;
+    let mut i = 0;
+    while i < ids.len() {
+        m = m | mark(low, ids[i]);
+        i += 1;
+    }
+    m
+}
+
+fn marks_of_eight(ids: &[u16], i: usize, low: u16) -> u64
+    requires { ⌜ (i + 8 ≤ length (now ids)) × (low + 64 ≤ 65535) ⌝ }
+    ensures { λ r. ⌜ r ≡ marked low (take 8 (drop i (now (ids .entry)))) ⌝ }
+{
+    if row_of_eight(ids, i, 0, 0) {
+        return 0;
+    }
+    let to = i + 8;
+    marks_of(&ids[i..to], low)
+}
+
+fn marks(ids: &[u16], low: u16) -> u64
+    requires { ⌜ low + 64 ≤ 65535 ⌝ }
+    ensures { λ r. ⌜ r ≡ marked low (now (ids .entry)) ⌝ }
+{
+    let mut m: u64 = 0;
+    let mut i = 0;
+    while 8 <= ids.len() - i {
+        m = m | marks_of_eight(ids, i, low);
+        i += 8;
+    }
+    m | marks_of(&ids[i..], low)
+}
+
+// The first of 64 that a mask has not, or 64.
+fn gap(m: u64) -> usize
+    ensures { λ r. ⌜ Gap (hasIn m) 64 r ⌝ }
+{
+    u64::trailing_zeros(masks::other_seats(0xffff_ffff_ffff_ffff, m)) as usize
+}
+
+// How many ids above `low` stand at some place before the first that does not, of 128.
+fn taken(ids: &[u16], low: u16) -> usize
+    requires { ⌜ low + 128 ≤ 65535 ⌝ }
+    ensures { λ r. ⌜ Gap (λ k. memberOf (low + 1 + k) (now (ids .entry))) 128 r ⌝ }
+{
+    let a = gap(marks(ids, low));
+    if a < 64 {
+        return a;
+    }
+    64 + gap(marks(ids, low + 64))
+}
+
+// The lowest id from 1001 that no place has, of 129 tried: behind the row, the ids that are left are marked.
 pub fn unused(ids: &[u16]) -> u16
     ensures { λ r. ⌜ r ≡ unusedIn 128 (now (ids .entry)) 1001 ⌝ }
 {
-    let mut hint = in_row(ids);
-    let mut x = 1001 + hint as u16;
-    let mut left = 128 - hint as u16;
-    while 0 < left {
-        let at = seek(ids, hint, x);
-        if at == ids.len() {
-            return x;
-        }
-        hint = at + 1;
-        x += 1;
-        left -= 1;
-    }
-    x
+    let h = in_row(ids);
+    let k = h + taken(&ids[h..], 1000 + h as u16);
+    1001 + at_most(128, k) as u16
 }
 
 // Of n listed ids the first `count`: how many there are.

@@ -16,11 +16,11 @@ Inv-loop ids x i₀ i = (i ≤ length ids) × (first 0 x ids ≡ first i x (drop
 abbrev μ-loop : tie.MeasureT-loop
 μ-loop ids x i₀ i = length ids - i
 
-skipped-requires : tie.Need-skipped-requires Inv-loop μ-loop
-skipped-requires c κs = search needs
+passed-requires : tie.Need-passed-requires Inv-loop μ-loop
+passed-requires c κs = search needs
 
 loop-holds : tie.Need-loop-holds Inv-loop μ-loop
-loop-holds c = (search needs, c .skipped .ensures .1)
+loop-holds c = (search needs, c .passed .ensures .1)
 
 mul-if1 : tie.Need-mul-if1 Inv-loop μ-loop
 mul-if1 c = search needs
@@ -55,7 +55,7 @@ first-spec =
     (tie.spec
     Inv-loop
     μ-loop
-    skipped-requires
+    passed-requires
     loop-holds
     mul-if1
     shared-slice-read-if1

@@ -34,7 +34,7 @@ row-of-eight-requires : tie.Need-row-of-eight-requires Inv-loop μ-loop
 row-of-eight-requires c κs = (omega arith, omega arith)
 
 returns : tie.Need-returns Inv-loop μ-loop
-returns c = (omega arith, c .before .before .before .loop .inv .3)
+returns c = (omega arith, omega arith, c .before .before .before .loop .inv .3)
 
 add-i : tie.Need-add-i Inv-loop μ-loop
 add-i c = search needs
@@ -47,7 +47,7 @@ loop-again c = let b = c .before .before .before .loop in
     (omega arith, b .inv .1, b .inv .2, row-on (c .before .before .before .before .before .before .args .ids .now) (b .i) 8 1001 (b .inv .3) (c .before .row-of-eight .ensures (not-false _ (c .if1 .left))))
 
 returns-2 : tie.Need-returns-2 Inv-loop μ-loop
-returns-2 c = (omega arith, c .before .loop .inv .3)
+returns-2 c = (omega arith, omega arith, c .before .loop .inv .3)
 
 pub in-row-spec : {M : Type 1} → statement M
 in-row-spec =
