@@ -1,5 +1,6 @@
 -- Choices, lists and masks. A mask is a number that stands for a set of small numbers: its binary digit k is 1 where k is in the set.
-use Prim.Native.Nat.{ℕ, zero, suc, _+_, _*_, _/_, _%_, _^_}
+use Prim.Native.Nat.{ℕ, zero, suc, _+_, _*_, _/_, _%_, _^_, _≤_, _<_}
+use mathlib.Core.Path.{_≡_}
 use mathlib.Core.Bool.{Bool, true, false, not, _&&_, _||_}
 use mathlib.Core.List.{List, [], _∷_, _++_}
 use lib.Dec.{eqb}
@@ -94,3 +95,9 @@ only w k = those w (eqb k)
 -- the set, ascending
 unfoldable pub listed : ℕ → ℕ → List ℕ
 listed w m = keep (has m) (below w)
+
+-- the first number of the set from `from` on is r; 64 where there is none
+pub record NextIn (m from r : ℕ) : Type 0 where
+  pub within : r ≤ seats
+  pub passed : (k : ℕ) → from ≤ k → k < r → has m k ≡ false
+  pub here : r < seats → (from ≤ r) × (has m r ≡ true)
