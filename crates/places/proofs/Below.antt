@@ -1,8 +1,10 @@
--- The numbers below n: all of them pass a test, some does, or the first that does.
+-- The numbers below n: all of them pass a test, some does, or the first that does; and what each number of a range keeps.
 use mathlib.Core.Path.{_≡_, refl, ap, _∙_}
 use mathlib.Core.Bool.{Bool, true, false, false≢true, or-true}
 use mathlib.Core.List.{List, [], _∷_}
-use Prim.Native.Nat.{ℕ, zero, suc, _<_}
+use Prim.Native.Nat.{ℕ, zero, suc, _+_, _≤_, _<_}
+use native.Mathlib.Decide.{le-ind}
+use native.Mathlib.Numerals.{add-one}
 use native.Mathlib.Omega.{arith}
 use lib.Dec.{eqb}
 use borrow.Author.Tests.{eqb-true, eqb-false}
@@ -81,3 +83,7 @@ seek-first f (suc n) = go (seek-first f n) (f n) refl
     go (hit i l q) b r = hit i (omega arith) q
     go (miss h) true r = hit n (omega arith) r
     go (miss h) false r = miss (λ i l. at i l (eqb i n) refl r h)
+
+-- from a number to another: what each number between them keeps
+pub across : {from : ℕ} (P : ℕ → Type 0) (r : ℕ) → from ≤ r → ((k : ℕ) → from ≤ k → k < r → P k → P (k + 1)) → P from → P r
+across {from} P r h f p = le-ind (λ (k : ℕ). k ≤ r → P k) (λ l. p) (λ k a q l. rw add-one at (f k a l (q (omega arith)))) r h (omega arith)

@@ -2,14 +2,14 @@
 use mathlib.Core.Path.{_≡_, refl, sym, ap, _∙_}
 use mathlib.Core.List.{List, map}
 use mathlib.Core.Option.{Option, none, some}
-use Prim.Native.Nat.{ℕ, zero, suc, _+_, _-_, _≤_, _<_}
-use native.Mathlib.Nat.{add-zero}
+use Prim.Native.Nat.{ℕ, _+_, _≤_, _<_}
 use native.Mathlib.Numerals.{add-one}
 use native.Mathlib.Omega.{arith}
 use lib.ListN.{length, getD, set, drop, length-set}
 use lib.Seq.{set-getD}
 use borrow.Author.Tests.{eq-eqb, ne-eqb}
 use Rattle.places.specs.Places.{busy, number, becomes, turns-to, sweep}
+use Rattle.places.proofs.Below.{across}
 use Rattle.places.proofs.Places.{Sweeping, sweep-start, sweep-turn, sweep-end}
 use Rattle.places.proofs.Busy.{busy-is}
 use Rattle.places.specs.Swept.{Turns}
@@ -45,7 +45,7 @@ module _ {A : Type 0} (blank : A) (fate : ℕ → ℕ → A → Option A) where
   sweeps-start n xs cs a b = record { inside = omega arith; ids = a; cells = b; swept = sweep-start blank fate xs cs }
 
   module _ {n : ℕ} {xs₀ : List ℕ} {cs₀ : List A} {i : ℕ} {xs : List ℕ} {cs : List A} (s : Sweeps n xs₀ cs₀ i xs cs) where
-    sweeps-turn : {ys : List ℕ} {ds : List A} → i < n → Turns blank fate i xs cs ys ds → Sweeps n xs₀ cs₀ (i + 1) ys ds
+    pub sweeps-turn : {ys : List ℕ} {ds : List A} → i < n → Turns blank fate i xs cs ys ds → Sweeps n xs₀ cs₀ (i + 1) ys ds
     sweeps-turn {ys} {ds} h t =
         rw (add-one i)
         (record {
@@ -58,22 +58,17 @@ module _ {A : Type 0} (blank : A) (fate : ℕ → ℕ → A → Option A) where
     pub sweeps-end : n ≤ i → (xs ≡ map (λ r. r .0) (sweep blank fate 0 xs₀ cs₀)) × (cs ≡ map (λ r. r .1) (sweep blank fate 0 xs₀ cs₀))
     sweeps-end h = sweep-end blank fate (s .swept) blank (omega arith) (omega arith)
 
-  -- free places are passed: they are as they were
+  -- places that stay as they are are passed
   module _ {n : ℕ} {xs₀ : List ℕ} {cs₀ : List A} {i : ℕ} {xs : List ℕ} {cs : List A} (s : Sweeps n xs₀ cs₀ i xs cs) where
-    sweeps-past : (d : ℕ) → i + d ≤ n → ((k : ℕ) → i ≤ k → k < i + d → getD xs k 0 ≡ 0) → Sweeps n xs₀ cs₀ (i + d) xs cs
-    sweeps-past zero h f = rw (add-zero i) s
-    sweeps-past (suc d) h f =
-        let z : getD xs (i + d) 0 ≡ 0 = f (i + d) (omega arith) (omega arith) in
-        let p : i + d + 1 ≡ i + suc d = omega arith in
-        rw p at (sweeps-turn (sweeps-past d (omega arith) (λ k a b. f k a (omega arith))) (omega arith) (turn-free (i + d) xs cs z))
+    pub sweeps-past : (r : ℕ) → i ≤ r → r ≤ n → ((k : ℕ) → i ≤ k → k < r → Turns blank fate k xs cs xs cs) → Sweeps n xs₀ cs₀ r xs cs
+    sweeps-past r l h f = across (λ (k : ℕ). Sweeps n xs₀ cs₀ k xs cs) r l (λ k a b q. sweeps-turn q (omega arith) (f k a b)) s
 
-    -- to the next place in use, which the code's `used_from` answers
+    -- to the next place in use, which the code's `used_from` answers: free places stay as they are
     pub sweeps-next : (r : ℕ) → r ≡ number (length xs) (busy i (drop i xs)) → (i ≤ r) × Sweeps n xs₀ cs₀ r xs cs
     sweeps-next r e =
         let b = busy-is xs i r e in
         let l : i ≤ r = b .behind (omega arith) in
-        let p : i + (r - i) ≡ r = omega arith in
-        (l, rw p at (sweeps-past (r - i) (omega (arith, b .within)) (λ k a h. b .free k a (omega arith))))
+        (l, sweeps-past r l (omega (arith, b .within)) (λ k a h. turn-free k xs cs (b .free k a h)))
 
   -- a turn of the loop: the place, and on to the next in use
   module _ {n : ℕ} {xs₀ : List ℕ} {cs₀ : List A} {i : ℕ} {xs : List ℕ} {cs : List A} (s : Sweeps n xs₀ cs₀ i xs cs) where

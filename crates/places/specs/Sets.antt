@@ -105,3 +105,9 @@ pub record Gap (f : (ℕ → Bool)) (n r : ℕ) : Type 0 where
   pub within : r ≤ n
   pub before : (k : ℕ) → k < r → f k ≡ true
   pub here : r < n → f r ≡ false
+
+-- the first number of the set from `from` on is r; 64 where there is none
+pub record NextIn (m from r : ℕ) : Type 0 where
+  pub within : r ≤ seats
+  pub passed : (k : ℕ) → from ≤ k → k < r → has m k ≡ false
+  pub here : r < seats → (from ≤ r) × (has m r ≡ true)

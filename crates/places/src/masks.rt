@@ -1,7 +1,7 @@
 // A mask is a number that stands for a set of small numbers: connections 0 to 15, or user places 0 to 63.
 ghost use mathlib.Core.Path.{_≡_};
 ghost use lib.ListN.{length};
-ghost use Rattle.places.specs.Sets.{has as hasIn, with as withOf, without as withoutOf, only as onlyOf, meet as meetOf, minus as minusOf, union as unionOf, listed, links, seats};
+ghost use Rattle.places.specs.Sets.{has as hasIn, with as withOf, without as withoutOf, only as onlyOf, meet as meetOf, minus as minusOf, union as unionOf, listed, links, seats, NextIn};
 
 // The mask has k.
 pub fn has(m: u64, k: u8) -> bool
@@ -11,6 +11,20 @@ pub fn has(m: u64, k: u8) -> bool
         return (m >> k) % 2 == 1;
     }
     false
+}
+
+// The first number of the mask from `from` on; 64 where there is none.
+pub fn next_in(m: u64, from: usize) -> usize
+    ensures { λ r. ⌜ NextIn m from r ⌝ }
+{
+    if 64 <= from {
+        return 64;
+    }
+    let rest = m >> from;
+    if rest == 0 {
+        return 64;
+    }
+    from + u64::trailing_zeros(rest) as usize
 }
 
 // Connection k alone; the mask with it; the mask without it.

@@ -6,8 +6,11 @@ use Prim.Native.Nat.{ℕ, zero, suc, _+_, _-_, _*_, _≤_, _<_}
 use native.Mathlib.Nat.{add-zero, add-suc, suc-add, zero-add, zero-mul, mul-zero, suc-mul}
 use native.Mathlib.Numerals.{add-one}
 use native.Mathlib.Omega.{arith}
+use lib.Dec.{ltb}
 use lib.ListN.{length, length-append}
-use Rattle.places.specs.Sets.{if_then_else_, keep, each, upto, below, has, listed, links}
+use borrow.Author.Tests.{ltb-true, ltb-false}
+use Rattle.places.specs.Sets.{if_then_else_, keep, each, upto, below, has, listed, links, NextIn}
+use Rattle.places.proofs.Nexts.{next-keeps}
 use Rattle.messages.specs.Limits.{message-limit}
 use Rattle.messages.specs.Named.{Message}
 use Rattle.records.specs.Records.{Sent, to, tell, wire, framed, octets, records}
@@ -41,7 +44,7 @@ module _ (mask : ℕ) (m : List ℕ) where
   unfolding told
   telling-all = ap (each (told-to mask m)) (sym (below-run 16))
 
-  pub telling-next : (q : ℕ) → q < 16 → telling mask m q ≡ told-to mask m q ++ telling mask m (q + 1)
+  telling-next : (q : ℕ) → q < 16 → telling mask m q ≡ told-to mask m q ++ telling mask m (q + 1)
   unfolding each run
   telling-next q h =
       let e : 16 - q ≡ suc (16 - (q + 1)) = omega arith in
@@ -53,15 +56,29 @@ module _ (mask : ℕ) (m : List ℕ) where
       let e : 16 - q ≡ 0 = omega arith in
       rw e refl
 
-  pub told-one : (q : ℕ) → has mask q ≡ true → told-to mask m q ≡ framed m q
+  told-one : (q : ℕ) → has mask q ≡ true → told-to mask m q ≡ framed m q
   unfolding told-to
   told-one q e = rw e refl
 
-  pub told-none : (q : ℕ) → has mask q ≡ false → told-to mask m q ≡ []
+  told-none : (q : ℕ) → has mask q ≡ false → told-to mask m q ≡ []
   unfolding told-to
   told-none q e = rw e refl
 
-  pub told-most : (q : ℕ) → length (told-to mask m q) ≤ length m + 4
+  -- to the next connection of the mask: those between tell nothing
+  telling-skip : (q : ℕ) → has mask q ≡ false → telling mask m q ≡ telling mask m (q + 1)
+  telling-skip q e = go (ltb q 16) refl
+    where
+      go : (b : Bool) → ltb q 16 ≡ b → telling mask m q ≡ telling mask m (q + 1)
+      go true l = telling-next q (ltb-true q 16 l) ∙ ap (λ (os : List ℕ). os ++ telling mask m (q + 1)) (told-none q e)
+      go false l = let h = ltb-false q 16 l in telling-end q h ∙ sym (telling-end (q + 1) (omega arith))
+
+  pub telling-past : {from r : ℕ} → NextIn mask from r → from ≤ 64 → telling mask m from ≡ telling mask m r
+  telling-past {from} x l = next-keeps x l (λ (k : ℕ). telling mask m from ≡ telling mask m k) (λ k a e p. p ∙ telling-skip k e) refl
+
+  pub telling-on : (q : ℕ) → q < 16 → has mask q ≡ true → {r : ℕ} → NextIn mask (q + 1) r → telling mask m q ≡ framed m q ++ telling mask m r
+  telling-on q h e x = telling-next q h ∙ ap₂ (λ (os ps : List ℕ). os ++ ps) (told-one q e) (telling-past x (omega arith))
+
+  told-most : (q : ℕ) → length (told-to mask m q) ≤ length m + 4
   told-most q = go (has mask q) refl
     where
       go : (b : Bool) → has mask q ≡ b → length (told-to mask m q) ≤ length m + 4

@@ -145,26 +145,17 @@ pub fn send(out: &mut [u8], at: usize, q: u8, m: &[u8]) -> usize
     at
 }
 
-fn tell_one(out: &mut [u8], at: usize, mask: u16, q: u8, m: &[u8]) -> usize
-    requires { ⌜ (at ≤ 100000) × (length (now m) ≤ message-limit) ⌝ }
-    ensures { λ r. ⌜ Puts (now (out .entry)) at (told-to mask (now (m .entry)) q) (now (out .exit)) r ⌝ }
-{
-    if places::masks::has(mask as u64, q) {
-        return lay_record(out, at, q, m);
-    }
-    at
-}
-
 // A message to each connection of a mask, ascending.
 fn tell_all(out: &mut [u8], from: usize, mask: u16, m: &[u8]) -> usize
     requires { ⌜ (from ≤ 65535) × (length (now m) ≤ message-limit) ⌝ }
     ensures { λ r. ⌜ Puts (now (out .entry)) from (told mask (now (m .entry))) (now (out .exit)) r ⌝ }
 {
+    let all = mask as u64;
     let mut at = from;
-    let mut q: u8 = 0;
+    let mut q = places::masks::next_in(all, 0);
     while q < 16 {
-        at = tell_one(out, at, mask, q, m);
-        q += 1;
+        at = lay_record(out, at, q as u8, m);
+        q = places::masks::next_in(all, q + 1);
     }
     at
 }

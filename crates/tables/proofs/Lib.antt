@@ -2,5 +2,4 @@ pub mod PlaceLaws
 pub mod UserLaws
 pub mod TokenLaws
 pub mod Marking
-pub mod Halving
 pub mod ChannelSweeps

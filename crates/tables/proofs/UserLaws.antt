@@ -2,15 +2,17 @@
 use mathlib.Core.Path.{_≡_, refl, sym, ap, ap₂, _∙_}
 use mathlib.Core.Bool.{Bool, true, false, _&&_, _||_, or-false}
 use mathlib.Core.List.{List, [], _∷_}
-use Prim.Native.Nat.{ℕ, zero, suc, _^_, _≤_, _<_, zero-le}
+use Prim.Native.Nat.{ℕ, zero, suc, _+_, _^_, _≤_, _<_, zero-le}
+use native.Mathlib.Numerals.{add-one}
 use native.Mathlib.Omega.{arith}
 use lib.Dec.{eqb}
 use lib.ListN.{length, getD}
 use borrow.Author.Tests.{eq-eqb, ne-eqb}
-use Rattle.places.specs.Sets.{if_then_else_, any, upto, below, has, with, links, seats}
+use Rattle.places.specs.Sets.{if_then_else_, any, upto, below, has, with, links, seats, NextIn}
 use Rattle.places.specs.Places.{Place, At, Nowhere, find, number}
 use Rattle.places.proofs.Rows.{getD-any}
 use Rattle.places.proofs.Digits.{has-high, has-with, is-those, those-lt}
+use Rattle.places.proofs.Nexts.{next-keeps}
 use Rattle.domain.specs.Tables.{Users, users-of, link, attached, hosts}
 
 -- ---- attached on p
@@ -69,24 +71,26 @@ pub hosting-start : (us : Users) (who : ℕ) → Hosting us who 0 0
 unfolding any upto
 hosting-start us who = record { small = omega arith; has-are = λ q h. has-high 0 0 q (omega arith) zero-le }
 
-module _ (us : Users) (who m i : ℕ) (s : Hosting us who m i) where
-  pub hosting-step : Hosting us who (if has who i then with links m (link us i) else m) (suc i)
-  hosting-step = go (has who i) refl
-    where
-      go : (b : Bool) → has who i ≡ b → Hosting us who (if b then with links m (link us i) else m) (suc i)
-      go true e = record {
-        small = with-lt links m (link us i);
-        has-are = λ q h.
-            has-with links (link us i) q h m ∙ ap (λ (b : Bool). b || eqb (link us i) q) (s .has-are q h)
-            ∙ sym (any-next (hosted us who q) i ∙ ap (λ (b : Bool). any (hosted us who q) (below i) || (b && eqb (link us i) q)) e);
-      }
-      go false e = record {
-        small = s .small;
-        has-are = λ q h.
-            s .has-are q h
-            ∙ sym (any-next (hosted us who q) i ∙ ap (λ (b : Bool). any (hosted us who q) (below i) || (b && eqb (link us i) q)) e ∙ or-false (any (hosted us who q) (below i)));
-      }
+module _ {us : Users} {who m i : ℕ} (s : Hosting us who m i) where
+  hosted-next : (b : Bool) → has who i ≡ b → (q : ℕ) → any (hosted us who q) (below (i + 1)) ≡ (any (hosted us who q) (below i) || (b && eqb (link us i) q))
+  hosted-next b e q = rw add-one (any-next (hosted us who q) i ∙ ap (λ (b : Bool). any (hosted us who q) (below i) || (b && eqb (link us i) q)) e)
+
+  pub hosting-with : has who i ≡ true → Hosting us who (with links m (link us i)) (i + 1)
+  hosting-with e = record {
+    small = with-lt links m (link us i);
+    has-are = λ q h. has-with links (link us i) q h m ∙ ap (λ (b : Bool). b || eqb (link us i) q) (s .has-are q h) ∙ sym (hosted-next true e q);
+  }
+
+  hosting-without : has who i ≡ false → Hosting us who m (i + 1)
+  hosting-without e = record {
+    small = s .small;
+    has-are = λ q h. s .has-are q h ∙ sym (hosted-next false e q ∙ or-false (any (hosted us who q) (below i)));
+  }
 
   pub hosting-end : i ≡ seats → m ≡ hosts us who
   unfolding hosts
   hosting-end e = is-those links m _ (s .small) (λ q h. s .has-are q h ∙ ap (λ (n : ℕ). any (hosted us who q) (below n)) e)
+
+-- to the next user of the set
+pub hosting-past : {us : Users} {who m i r : ℕ} → Hosting us who m i → NextIn who i r → i ≤ seats → Hosting us who m r
+hosting-past {us} {who} {m} s x l = next-keeps x l (λ (k : ℕ). Hosting us who m k) (λ k a e t. hosting-without t e) s

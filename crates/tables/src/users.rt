@@ -4,7 +4,6 @@ ghost use mathlib.Core.List.{List};
 ghost use Prim.Native.Nat.{ℕ, _≤_};
 ghost use lib.ListN.{getD};
 ghost use Rattle.places.specs.Places.{number};
-ghost use Rattle.places.specs.Sets.{if_then_else_, with, links};
 ghost use Rattle.domain.specs.Channels.{places as placesOf};
 ghost use Rattle.domain.specs.Tables.{users-of, attached as attachedIn, add-user, hosts as hostsOf};
 
@@ -33,28 +32,16 @@ pub fn add_user(names: &mut [u16; 64], homes: &mut [u8; 64], u: u16, p: u8)
     }
 }
 
-// The connections that have a user of a mask of places. The mask is halved from place to place, until none is left.
+// The connections that have a user of a mask of places.
 pub fn hosts(names: &[u16; 64], homes: &[u8; 64], who: u64) -> u16
     ensures { λ r. ⌜ r ≡ hostsOf (users-of (now (names .entry)) (now (homes .entry))) who ⌝ }
 {
     let at = &homes[..];
     let mut m: u16 = 0;
-    let mut i = 0;
-    let mut left = who;
-    while 0 < left {
-        m = host(m, left % 2 == 1, at[i]);
-        left = left / 2;
-        i += 1;
-    }
-    m
-}
-
-// A mask with the connection of one user more, where it counts.
-fn host(m: u16, counts: bool, home: u8) -> u16
-    ensures { λ r. ⌜ r ≡ (if counts then with links m home else m) ⌝ }
-{
-    if counts {
-        return places::masks::with_link(m, home);
+    let mut i = places::masks::next_in(who, 0);
+    while i < 64 {
+        m = places::masks::with_link(m, at[i]);
+        i = places::masks::next_in(who, i + 1);
     }
     m
 }

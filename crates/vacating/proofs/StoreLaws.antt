@@ -1,11 +1,14 @@
 -- What becomes of a user's place and of a token's, and the tables once every place is swept.
 use mathlib.Core.Path.{_≡_, refl, sym, ap, _∙_}
-use mathlib.Core.Bool.{true, false}
+use mathlib.Core.Bool.{Bool, true, false}
 use mathlib.Core.List.{List, [], _∷_}
 use Prim.Native.Nat.{ℕ, _≤_, _<_}
 use native.Mathlib.Omega.{arith}
+use lib.Dec.{eqb}
 use lib.ListN.{length, getD, set}
-use Rattle.places.specs.Sets.{has}
+use borrow.Author.Tests.{eqb-true, eqb-false}
+use Rattle.places.specs.Sets.{has, NextIn}
+use Rattle.places.specs.Places.{becomes}
 use Rattle.places.specs.Swept.{Turns}
 use Rattle.domain.specs.declared.token.Holding.{Holding}
 use Rattle.domain.specs.declared.token.Holding.the-variants.{Free, Grabbed, Inhibited, Giving, Given}
@@ -14,18 +17,27 @@ use Rattle.domain.specs.Cells.{no-token, hold, token-of}
 use Rattle.domain.specs.Tables.{users-of, stays-on, remove-users, tokens-of, token-cells, is-free, sweep-tokens}
 use Rattle.domain.specs.Tokens.{lose}
 use Rattle.domain.proofs.CellLaws.{token, token-at, token-set}
-use Rattle.vacating.specs.Fates.{loses}
-use Rattle.places.proofs.Sweeps.{turn-ends, turn-stays, turn-keeps, Sweeps, sweeps-start, sweeps-end}
+use Rattle.vacating.specs.Fates.{ends, loses}
+use Rattle.places.proofs.Nexts.{next-behind}
+use Rattle.places.proofs.Sweeps.{turn-free, turn-ends, turn-stays, turn-keeps, Sweeps, sweeps-start, sweeps-past, sweeps-end}
 
 -- ---- users
-module _ (gone i : ℕ) (xs cs : List ℕ) (n : getD xs i 0 ≡ 0 → ⊥) where
-  pub user-leaves : has gone i ≡ true → Turns 0 (stays-on gone) i xs cs (set xs i 0) (set cs i 0)
-  unfolding stays-on
-  user-leaves h = turn-ends 0 (stays-on gone) i xs cs n (rw h refl)
+module _ (gone i : ℕ) (xs cs : List ℕ) where
+  pub user-leaves : {ys ds : List ℕ} → has gone i ≡ true → Turns 0 ends i xs cs ys ds → Turns 0 (stays-on gone) i xs cs ys ds
+  unfolding stays-on becomes
+  user-leaves h t = record { ids = rw h (t .ids); cells = rw h (t .cells) }
 
   pub user-stays : has gone i ≡ false → Turns 0 (stays-on gone) i xs cs xs cs
   unfolding stays-on
-  user-stays h = turn-keeps 0 (stays-on gone) i xs cs n (rw h refl)
+  user-stays h = go (eqb (getD xs i 0) 0) refl
+    where
+      go : (b : Bool) → eqb (getD xs i 0) 0 ≡ b → Turns 0 (stays-on gone) i xs cs xs cs
+      go true e = turn-free 0 (stays-on gone) i xs cs (eqb-true (getD xs i 0) 0 e)
+      go false e = turn-keeps 0 (stays-on gone) i xs cs (eqb-false (getD xs i 0) 0 e) (rw h refl)
+
+-- to the next user who leaves
+pub users-past : {gone j r : ℕ} {xs₀ cs₀ xs cs : List ℕ} → Sweeps 0 (stays-on gone) 64 xs₀ cs₀ j xs cs → NextIn gone j r → Sweeps 0 (stays-on gone) 64 xs₀ cs₀ r xs cs
+users-past {gone} {j} {r} {xs₀} {cs₀} {xs} {cs} s x = sweeps-past 0 (stays-on gone) s r (next-behind x (s .inside)) (x .within) (λ k a b. user-stays gone k xs cs (x .passed k a b))
 
 pub users-swept : (gone i : ℕ) (xs₀ cs₀ xs cs : List ℕ) → Sweeps 0 (stays-on gone) 64 xs₀ cs₀ i xs cs → 64 ≤ i → users-of xs cs ≡ remove-users (users-of xs₀ cs₀) gone
 unfolding remove-users

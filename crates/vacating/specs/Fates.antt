@@ -12,6 +12,10 @@ use Rattle.places.specs.Places.{Place, At, Nowhere}
 use Rattle.vacating.specs.declared.channels.Fate.{Fate}
 use Rattle.vacating.specs.declared.channels.Fate.the-variants.{Ends, Stays}
 
+-- a user: gone, whoever it is
+abbrev pub ends : (i u home : ℕ) → Option ℕ
+ends i u home = none
+
 -- a token: its state without those who leave, or none where it is free
 abbrev pub loses : (gone i k : ℕ) (t : Token) → Option Token
 loses gone i k t = if is-free (lose gone (hold t)) then none else some (token-of (lose gone (hold t)))

@@ -1,36 +1,57 @@
+-- The loop goes from one connection of the mask to the next: those between tell nothing.
+use mathlib.Core.Bool.{true}
+use mathlib.Core.Path.{_≡_}
 use borrow.Author.Needs.{needs}
-use Prim.Native.Nat.{_+_, _*_, _≤_, _-_}
+use Prim.Native.Nat.{_+_, _*_, _≤_, _<_, _-_}
 use native.Mathlib.Omega.{arith}
+use Rattle.places.specs.Sets.{has}
+use Rattle.places.proofs.Nexts.{next-behind}
 use Rattle.records.specs.Out.{told}
-use Rattle.records.proofs.Laying.{Onward, onward-start, onward-step, onward-end}
-use Rattle.records.proofs.Telling.{telling, telling-all, telling-next, telling-end, told-most}
+use Rattle.records.proofs.Laying.{framed-length, Onward, onward-start, onward-step, onward-end}
+use Rattle.records.proofs.Telling.{telling, telling-all, telling-past, telling-on, telling-end}
 use Rattle.records.proofs.tell_all.Statement.{statement}
 use Rattle.records.proofs.tell_all.Tie as tie
 
 abbrev Inv-loop : tie.InvT-loop
-Inv-loop out₀ from mask m at₀ q₀ out at q = (q ≤ 16) × (at ≤ from + q * 1028) × Onward out₀ from (told mask m) out at (telling mask m q)
+Inv-loop out₀ from mask m all at₀ q₀ out at q =
+    (q < 64 → has mask q ≡ true) × (at ≤ from + q * 1028) × Onward out₀ from (told mask m) out at (telling mask m q)
 
 abbrev μ-loop : tie.MeasureT-loop
-μ-loop out₀ from mask m at₀ q₀ out at q = 16 - q
+μ-loop out₀ from mask m all at₀ q₀ out at q = 16 - q
+
+next-in-requires : tie.Need-next-in-requires Inv-loop μ-loop
+next-in-requires c κs = search needs
 
 loop-holds : tie.Need-loop-holds Inv-loop μ-loop
-loop-holds c = (search needs, search needs, rw (telling-all (c .before .before .args .mask) (c .before .before .args .m .now)) (onward-start _ _ _))
+loop-holds c =
+    let a = c .before .before .before .args in
+    let x = c .next-in .ensures in
+    (λ h. x .here h .1, search needs, rw (← telling-past (a .mask) (a .m .now) x (omega arith), telling-all (a .mask) (a .m .now)) (onward-start _ _ _))
 
-tell-one-requires : tie.Need-tell-one-requires Inv-loop μ-loop
-tell-one-requires c κs = search needs
+cast-lay-record : tie.Need-cast-lay-record Inv-loop μ-loop
+cast-lay-record c = search needs
 
-add-q : tie.Need-add-q Inv-loop μ-loop
-add-q c = search needs
+lay-record-requires : tie.Need-lay-record-requires Inv-loop μ-loop
+lay-record-requires c κs = search needs
+
+add-next-in : tie.Need-add-next-in Inv-loop μ-loop
+add-next-in c = search needs
+
+next-in-requires-2 : tie.Need-next-in-requires-2 Inv-loop μ-loop
+next-in-requires-2 c κs = search needs
 
 loop-less : tie.Need-loop-less Inv-loop μ-loop
-loop-less c = search needs
+loop-less c = omega (arith, next-behind (c .next-in2 .ensures) (omega arith))
 
 loop-again : tie.Need-loop-again Inv-loop μ-loop
-loop-again c = let b = c .before .before .before .before .before .loop in
-    let a = c .before .before .before .before .before .before .before .before .args in (
-      search needs,
-      omega (arith, c .before .before .tell-one .ensures .next, told-most (a .mask) (a .m .now) (b .q)),
-      onward-step _ _ (b .inv .2) (telling-next (a .mask) (a .m .now) (b .q) (search needs)) (c .before .before .tell-one .ensures),
+loop-again c =
+    let a = c .before .before .before .before .before .before .before .before .before .before .args in
+    let b = c .before .before .before .before .before .before .loop in
+    let p = c .before .before .before .lay-record .ensures in
+    let x = c .next-in2 .ensures in (
+      λ h. x .here h .1,
+      omega (arith, p .next, framed-length (a .m .now) (b .q), next-behind x (omega arith)),
+      onward-step _ _ (b .inv .2) (telling-on (a .mask) (a .m .now) (b .q) (search needs) (b .inv .0 (omega arith)) x) p,
     )
 
 same-length : tie.Need-same-length Inv-loop μ-loop
@@ -45,9 +66,12 @@ tell-all-spec =
     (tie.spec
     Inv-loop
     μ-loop
+    next-in-requires
     loop-holds
-    tell-one-requires
-    add-q
+    cast-lay-record
+    lay-record-requires
+    add-next-in
+    next-in-requires-2
     loop-less
     loop-again
     same-length

@@ -1,43 +1,50 @@
-use Prim.Native.Nat.{_-_}
+-- The loop goes from one place of the mask to the next: who is not in it stays.
+use mathlib.Core.Bool.{true}
+use mathlib.Core.Path.{_≡_}
+use Prim.Native.Nat.{_-_, _<_}
 use native.Mathlib.Omega.{arith}
 use borrow.Author.Needs.{needs}
-use Rattle.places.proofs.Sweeps.{Sweeps, sweeps-start, sweeps-next, sweeps-step}
+use Rattle.places.specs.Sets.{has}
+use Rattle.places.proofs.Nexts.{next-behind}
+use Rattle.places.proofs.Sweeps.{Sweeps, sweeps-start, sweeps-turn}
 use Rattle.domain.specs.Tables.{stays-on}
-use Rattle.vacating.proofs.StoreLaws.{users-swept}
+use Rattle.vacating.proofs.StoreLaws.{user-leaves, users-past, users-swept}
 use Rattle.vacating.proofs.users.leave.Statement.{statement}
 use Rattle.vacating.proofs.users.leave.Tie as tie
 
 abbrev Inv-loop : tie.InvT-loop
-Inv-loop names₀ homes₀ gone n m j₀ names homes j =
-    Sweeps 0 (stays-on gone) 64 names₀ homes₀ j names homes
+Inv-loop names₀ homes₀ gone n m j₀ names homes j = (j < 64 → has gone j ≡ true) × Sweeps 0 (stays-on gone) 64 names₀ homes₀ j names homes
 
 abbrev μ-loop : tie.MeasureT-loop
 μ-loop names₀ homes₀ gone n m j₀ names homes j = 64 - j
 
-used-from-requires : tie.Need-used-from-requires Inv-loop μ-loop
-used-from-requires c κs = search needs
+next-in-requires : tie.Need-next-in-requires Inv-loop μ-loop
+next-in-requires c κs = search needs
 
 loop-holds : tie.Need-loop-holds Inv-loop μ-loop
-loop-holds c = let a = c .before .before .before .before .before .before .before .args in
-    sweeps-next 0 (stays-on _) (sweeps-start 0 (stays-on (a .gone)) 64 (a .names .now) (a .homes .now) (search needs) (search needs)) _ (c .used-from .ensures) .1
+loop-holds c = let x = c .next-in .ensures in
+    (λ h. x .here h .1, users-past (sweeps-start 0 (stays-on _) 64 _ _ (search needs) (search needs)) x)
 
 leave-place-requires : tie.Need-leave-place-requires Inv-loop μ-loop
 leave-place-requires c κs = search needs
 
-add-used-from : tie.Need-add-used-from Inv-loop μ-loop
-add-used-from c = search needs
+add-next-in : tie.Need-add-next-in Inv-loop μ-loop
+add-next-in c = search needs
 
-used-from-requires-2 : tie.Need-used-from-requires-2 Inv-loop μ-loop
-used-from-requires-2 c κs = search needs
+next-in-requires-2 : tie.Need-next-in-requires-2 Inv-loop μ-loop
+next-in-requires-2 c κs = search needs
 
 loop-less : tie.Need-loop-less Inv-loop μ-loop
-loop-less c = omega (arith, sweeps-step 0 (stays-on _) (c .before .before .before .before .before .before .before .loop .inv) (search needs) (c .before .before .before .leave-place .ensures) _ (c .used-from2 .ensures) .0)
+loop-less c = omega (arith, next-behind (c .next-in2 .ensures) (omega arith))
 
 loop-again : tie.Need-loop-again Inv-loop μ-loop
-loop-again c = sweeps-step 0 (stays-on _) (c .before .before .before .before .before .before .before .loop .inv) (search needs) (c .before .before .before .leave-place .ensures) _ (c .used-from2 .ensures) .1
+loop-again c =
+    let b = c .before .before .before .before .before .loop in
+    let x = c .next-in2 .ensures in
+    (λ h. x .here h .1, users-past (sweeps-turn 0 (stays-on _) (b .inv .1) (search needs) (user-leaves _ _ _ _ (b .inv .0 (search needs)) (c .before .leave-place .ensures))) x)
 
 returns : tie.Need-returns Inv-loop μ-loop
-returns c = users-swept _ _ _ _ _ _ (c .before .loop .inv) (search needs)
+returns c = users-swept _ _ _ _ _ _ (c .before .loop .inv .1) (search needs)
 
 pub leave-spec : {M : Type 1} → statement M
 leave-spec =
@@ -45,11 +52,11 @@ leave-spec =
     (tie.spec
     Inv-loop
     μ-loop
-    used-from-requires
+    next-in-requires
     loop-holds
     leave-place-requires
-    add-used-from
-    used-from-requires-2
+    add-next-in
+    next-in-requires-2
     loop-less
     loop-again
     returns)
