@@ -5,8 +5,9 @@ pub mod Below
 pub mod Digits
 pub mod Counts
 pub mod Marks
--- any table of places: a search and a loop, the places in use, what each place holds, a table in order and what keeps it so, what each id holds, the ids listed
+-- any table of places: a search and a loop, the nearest place that passes, the places in use, what each place holds, a table in order and what keeps it so, what each id holds, the ids listed
 pub mod Places
+pub mod Nearest
 pub mod Busy
 pub mod Rows
 pub mod Table
