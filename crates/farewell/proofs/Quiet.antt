@@ -1,6 +1,6 @@
 -- Nothing is told of a channel that does not end, or of a token that is not being given.
 use mathlib.Core.Path.{_≡_, refl, sym, ap, _∙_}
-use mathlib.Core.Bool.{Bool, true, false}
+use mathlib.Core.Bool.{Bool, true, false, _&&_}
 use mathlib.Core.List.{List, [], _∷_, _++_}
 use Prim.Native.Nat.{ℕ, zero, suc, _/_, _%_, _≤_, _<_}
 use native.Mathlib.Omega.{arith}
@@ -46,7 +46,7 @@ quiet-kind : (us : Users) (gone live c : ℕ) (ch : Channel) → ends-by gone (c
 unfolding kind ended
 quiet-kind us gone live c ch h = go (eqb (ch .role) 2) (eqb (ch .role) 3) (eqb (ch .role) 4) h
   where
-    go : (a b d : Bool) → (if b then has gone (ch .chair) else false) ≡ false
+    go : (a b d : Bool) → (b && has gone (ch .chair)) ≡ false
         → ended us gone live c (if a then User else if b then Private (ch .chair) (ch .guests) else if d then Assigned else Static) ≡ []
     go true b d e = refl
     go false true d e = rw e refl

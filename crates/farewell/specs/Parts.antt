@@ -1,6 +1,6 @@
 -- The parts of a farewell, under a name each.
 use Prim.Native.Nat.{ℕ}
-use mathlib.Core.Bool.{Bool, false}
+use mathlib.Core.Bool.{Bool, _&&_}
 use mathlib.Core.List.{List, []}
 use lib.Dec.{eqb}
 use Rattle.places.specs.Sets.{if_then_else_, null, each, has}
@@ -22,7 +22,7 @@ kind-at cs c = kind (load (cs .cells) (find (cs .ids) c) no-channel)
 
 -- a private channel, role 3, ends where its manager leaves
 abbrev pub ends-by : (gone role chair : ℕ) → Bool
-ends-by gone role chair = if eqb role 3 then has gone chair else false
+ends-by gone role chair = eqb role 3 && has gone chair
 
 -- CDin for channel c, and TVcf for token k
 abbrev pub end-at : (us : Users) (cs : Channels) (gone live c : ℕ) → List Sent

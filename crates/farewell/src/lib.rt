@@ -1,5 +1,6 @@
 // The records that tell of users who leave: DUin by connection, CDin by channel, TVcf by token.
 ghost use mathlib.Core.Path.{_≡_};
+ghost use mathlib.Core.Bool.{_&&_};
 ghost use mathlib.Core.List.{[], _∷_, _++_};
 ghost use Prim.Native.Nat.{ℕ, _+_, _<_, _≤_};
 ghost use lib.Dec.{ltb};
@@ -128,17 +129,21 @@ fn put_listed(
     at
 }
 
-// A channel of this role and manager's place ends.
+// A channel of this role and manager's place ends. Both are looked at, with no branch between them.
 fn ends(role: u8, chair: u8, gone: u64) -> bool
     ensures { λ r. ⌜ r ≡ ends-by gone role chair ⌝ }
 {
-    if role == 3 {
-        return places::masks::has(gone, chair);
-    }
-    false
+    (role == 3) & places::masks::has(gone, chair)
 }
 
-// The channel at place j behind the first n of the list, where it ends.
+// A place counts if its channel ends and its id is not 0.
+fn counts(ends: bool, c: u16) -> usize
+    ensures { λ r. ⌜ (r ≡ (if ends && ltb 0 c then 1 else 0)) × (r ≤ 1) ⌝ }
+{
+    if ends & (0 < c) { 1 } else { 0 }
+}
+
+// The channel at place j behind the first n of the list. It is stored always, and counts where it ends: nobody can foresee which do.
 fn add_end(
     ids: &[u16; 128],
     roles: &[u8; 128],
@@ -150,19 +155,18 @@ fn add_end(
 ) -> usize
     requires { ⌜ (j < 128) × (n < 128) ⌝ }
     ensures { λ r. ⌜ (take r (now (ending .exit)) ≡ take n (now (ending .entry))
-        ++ (if ends-by gone (getD (now (roles .entry)) j 0) (getD (now (chairs .entry)) j 0) then getD (now (ids .entry)) j 0 ∷ [] else []))
+        ++ (if ends-by gone (getD (now (roles .entry)) j 0) (getD (now (chairs .entry)) j 0) && ltb 0 (getD (now (ids .entry)) j 0)
+        then getD (now (ids .entry)) j 0 ∷ [] else []))
         × (r ≤ n + 1) × (r ≤ length (now (ending .exit))) ⌝ }
 {
     // How long the list is: there is room for n + 1 ids.
     let room = ending[..].len();
-    if ends(roles[j], chairs[j], gone) {
-        ending[n] = ids[j];
-        return n + 1;
-    }
-    n
+    let c = ids[j];
+    ending[n] = c;
+    n + counts(ends(roles[j], chairs[j], gone), c)
 }
 
-// The channels that end, in the order of their places: so many.
+// The channels that end, in the order of their places: so many. Only a private channel, role 3, can end.
 fn list_ends(
     ids: &[u16; 128],
     roles: &[u8; 128],
@@ -173,11 +177,13 @@ fn list_ends(
     ensures { λ r. ⌜ (take r (now (ending .exit)) ≡ keep (ltb 0) (picked (λ j. ends-by gone (getD (now (roles .entry)) j 0) (getD (now (chairs .entry)) j 0)) 0 (now (ids .entry))))
         × (r ≤ 128) × (r ≤ length (now (ending .exit))) ⌝ }
 {
+    // How long the column is: a role for each id.
+    let all = ids[..].len();
     let mut n = 0;
-    let mut j = places::columns::used_from(ids, 0);
+    let mut j = places::columns::cell_from(roles, 0, 3);
     while j < 128 {
         n = add_end(ids, roles, chairs, gone, j, ending, n);
-        j = places::columns::used_from(ids, j + 1);
+        j = places::columns::cell_from(roles, j + 1, 3);
     }
     n
 }

@@ -1,5 +1,5 @@
 -- Those who leave, settled: refused with 9 and nothing touched, or done.
-use mathlib.Core.Path.{_≡_, refl, _∙_}
+use mathlib.Core.Path.{_≡_, refl, sym, ap, _∙_}
 use mathlib.Core.Bool.{true, false}
 use mathlib.Core.List.{List}
 use Prim.Native.Nat.{ℕ, _+_, _≤_, _<_}
@@ -39,9 +39,9 @@ module _ (l : Limits) (m : ℕ) (us : Users) (cs : Channels) (ts : Tokens) (live
     pub leave-full : length out < k → settled 9 0 before out ≡ settle before (leave before live reason ids) out
     leave-full h = sends-full 0 before after told out k size h ∙ leaves
 
-    pub leave-done : k ≤ length out → (us' : Users) (cs' : Channels) (ts' : Tokens) (s o : List ℕ) (n : ℕ) → us' ≡ remove-users us gone → cs' ≡ sweep-channels (fate us gone live) cs
+    pub leave-done : k ≤ length out → (us' : Users) (cs' : Channels) (ts' : Tokens) (s o : List ℕ) (n : ℕ) → us' ≡ remove-users us gone → cs' ≡ sweep-channels (fate us (places us ids) live) cs
         → ts' ≡ sweep-tokens (lose gone) ts → s ≡ out → Puts s 0 (records told) o n → settled 0 k (domain l live us' cs' ts') o ≡ settle before (leave before live reason ids) out
-    leave-done h us' cs' ts' s o n u v w same put = rw (u, v, w) (sends-done 0 before after told out k size h s o n same put ∙ leaves)
+    leave-done h us' cs' ts' s o n u v w same put = rw (u, v ∙ ap (λ (g : ℕ). sweep-channels (fate us g live) cs) (sym e), w) (sends-done 0 before after told out k size h s o n same put ∙ leaves)
 
 -- ---- DUrq, and p closes: the first n of `xs` are those who leave
 module _ (d : Domain) (p : ℕ) (out : List ℕ) where

@@ -138,7 +138,17 @@ fn leave(
         list,
         count,
     );
-    vacating::channels::leave(names, homes, ids, roles, chairs, guests, marks, gone, live);
+    vacating::channels::leave(
+        names,
+        homes,
+        ids,
+        roles,
+        chairs,
+        guests,
+        marks,
+        &all[..count],
+        live,
+    );
     vacating::users::leave(names, homes, gone);
     vacating::tokens::leave(keys, modes, values, gone);
     *links = live;

@@ -5,11 +5,12 @@ use mathlib.Core.List.{List}
 use Prim.Native.Nat.{ℕ, zero, suc, _+_, _-_, _*_, _≤_, _<_}
 use native.Mathlib.Nat.{add-mul, add-zero, add-suc, zero-add, mul-one}
 use native.Mathlib.Omega.{arith}
-use lib.Dec.{eqb, ltb}
+use lib.Dec.{ltb}
 use lib.ListN.{length, getD, drop, drop-of-length-le}
 use lib.Seq.{drop-cons}
-use borrow.Author.Tests.{eq-eqb, ne-eqb, eqb-true, eqb-false, ltb-true, ltb-false}
+use borrow.Author.Tests.{eq-eqb, ne-eqb, ltb-true, ltb-false}
 use Rattle.places.specs.Places.{At, Nowhere, busy, InRow, number}
+use Rattle.places.proofs.Nearest.{nearest-is}
 
 -- ---- in a row: two places, and two rows one behind the other
 
@@ -63,40 +64,14 @@ pub record Busy (ids : List ℕ) (from r : ℕ) : Type 0 where
   pub free : (k : ℕ) → from ≤ k → k < r → getD ids k 0 ≡ 0
   pub in-use : r < length ids → 0 < getD ids r 0
 
--- n places are left from `from` on
-busy-left : (ids : List ℕ) (n from r : ℕ) → from + n ≡ length ids → r ≡ number (length ids) (busy from (drop from ids)) → Busy ids from r
-unfolding number
-busy-left ids zero from r h e =
-    let z : r ≡ length ids = e ∙ ap (number (length ids)) (busy-none ids from (omega arith)) in
-    record { within = omega arith; behind = λ l. omega arith; free = λ k a b. absurd (omega arith); in-use = λ l. absurd (omega arith) }
-busy-left ids (suc n) from r h e = go (eqb (getD ids from 0) 0) refl (busy-left ids n (suc from) r (omega arith))
-  where
-    go : (b : Bool) → eqb (getD ids from 0) 0 ≡ b → (r ≡ number (length ids) (busy (suc from) (drop (suc from) ids)) → Busy ids (suc from) r) → Busy ids from r
-    go true q rec =
-        let z = eqb-true (getD ids from 0) 0 q in
-        let s = rec (e ∙ ap (number (length ids)) (busy-miss ids from (omega arith) z)) in
-        record {
-          within = s .within;
-          behind = λ l. omega (arith, s .behind (omega arith));
-          free = λ k a b. at k a b (eqb k from) refl z (s .free k);
-          in-use = s .in-use;
-        }
-      where
-        at : (k : ℕ) → from ≤ k → k < r → (b : Bool) → eqb k from ≡ b → getD ids from 0 ≡ 0 → (suc from ≤ k → k < r → getD ids k 0 ≡ 0) → getD ids k 0 ≡ 0
-        at k a b true p z f = ap (λ (y : ℕ). getD ids y 0) (eqb-true k from p) ∙ z
-        at k a b false p z f = f (omega (arith, eqb-false k from p)) b
-    go false q rec =
-        let u : 0 < getD ids from 0 = omega (arith, eqb-false (getD ids from 0) 0 q) in
-        let z : r ≡ from = e ∙ ap (number (length ids)) (busy-hit ids from (omega arith) u) in
-        record { within = omega arith; behind = λ l. omega arith; free = λ k a b. absurd (omega arith); in-use = λ l. rw z u }
-
 pub busy-is : (ids : List ℕ) (from r : ℕ) → r ≡ number (length ids) (busy from (drop from ids)) → Busy ids from r
-unfolding number
-busy-is ids from r e = go (ltb (length ids) from) refl
-  where
-    go : (b : Bool) → ltb (length ids) from ≡ b → Busy ids from r
-    go true q =
-        let l = ltb-true (length ids) from q in
-        let z : r ≡ length ids = e ∙ ap (number (length ids)) (busy-none ids from (omega arith)) in
-        record { within = omega arith; behind = λ h. absurd (omega arith); free = λ k a b. absurd (omega arith); in-use = λ h. absurd (omega arith) }
-    go false q = busy-left ids (length ids - from) from r (let l = ltb-false (length ids) from q in omega arith) e
+busy-is ids from r e =
+    let used : ℕ → Bool = λ k. ltb 0 (getD ids k 0) in
+    let b = nearest-is (length ids) used (λ i. busy i (drop i ids)) (λ i h q. busy-hit ids i h (ltb-true 0 (getD ids i 0) q))
+    (λ i h q. busy-miss ids i h (omega (arith, ltb-false 0 (getD ids i 0) q))) (busy-none ids) from r e in
+    record {
+      within = b .within;
+      behind = b .behind;
+      free = λ k a l. omega (arith, ltb-false 0 (getD ids k 0) (b .passed k a l));
+      in-use = λ l. ltb-true 0 (getD ids r 0) (b .here l);
+    }

@@ -1,6 +1,6 @@
 -- A mask of w digits whose elements all have a property, and what the operations on masks keep of it.
-use mathlib.Core.Path.{_≡_, refl, sym, _∙_}
-use mathlib.Core.Bool.{Bool, true, false, not, false≢true, or-true}
+use mathlib.Core.Path.{_≡_, refl, sym, ap, _∙_}
+use mathlib.Core.Bool.{Bool, true, false, not, _&&_, false≢true, or-true}
 use Prim.Native.Nat.{ℕ, zero, suc, _<_, _^_, zero-le}
 use native.Mathlib.Nat.{zero-lt-suc}
 use lib.Dec.{eqb, ltb}
@@ -8,7 +8,7 @@ use lib.Pow.{pow-pos}
 use borrow.Author.Tests.{eq-eqb, ne-eqb, eqb-true, eqb-false, ltb-true, ltb-false, not-true}
 use Rattle.places.specs.Sets.{has, those, with, without, minus, meet, union, only}
 use Rattle.places.proofs.Bools.{and-parts, or-elim}
-use Rattle.places.proofs.Digits.{has-those, those-lt, has-high}
+use Rattle.places.proofs.Digits.{has-those, those-lt, is-those, has-high}
 
 pub record Marks (w m : ℕ) (N : ℕ → Type 0) : Type 0 where
   pub fits : m < 2 ^ w
@@ -23,6 +23,10 @@ has-low w m q l h = go (ltb q w) refl
 
 pub has-none : (k : ℕ) → has 0 k ≡ false
 has-none k = has-high 0 0 k (zero-lt-suc 0) zero-le
+
+pub meet-none : (w n : ℕ) → meet w 0 n ≡ 0
+unfolding meet
+meet-none w n = sym (is-those w 0 (λ k. has 0 k && has n k) (pow-pos w) (λ k h. has-none k ∙ sym (ap (λ (b : Bool). b && has n k) (has-none k))))
 
 pub has-pos : (m k : ℕ) → has m k ≡ true → 0 < m
 has-pos zero k h = absurd (false≢true (sym (has-none k) ∙ h))

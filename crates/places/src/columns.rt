@@ -302,6 +302,68 @@ pub fn any_is(cells: &[u8], k: u8) -> bool
     any
 }
 
+// One of the two, four, eight, sixteen cells from i on is k. They too are looked at together.
+fn two_cells(cells: &[u8], i: usize, k: u8) -> bool
+    requires { ⌜ i + 2 ≤ length (now cells) ⌝ }
+    ensures { λ r. ⌜ (r ≡ false → firstIn i k (drop i (now (cells .entry))) ≡ firstIn (i + 2) k (drop (i + 2) (now (cells .entry)))) ⌝ }
+{
+    (cells[i] == k) | (cells[i + 1] == k)
+}
+
+fn four_cells(cells: &[u8], i: usize, k: u8) -> bool
+    requires { ⌜ i + 4 ≤ length (now cells) ⌝ }
+    ensures { λ r. ⌜ (r ≡ false → firstIn i k (drop i (now (cells .entry))) ≡ firstIn (i + 4) k (drop (i + 4) (now (cells .entry)))) ⌝ }
+{
+    two_cells(cells, i, k) | two_cells(cells, i + 2, k)
+}
+
+fn eight_cells(cells: &[u8], i: usize, k: u8) -> bool
+    requires { ⌜ i + 8 ≤ length (now cells) ⌝ }
+    ensures { λ r. ⌜ (r ≡ false → firstIn i k (drop i (now (cells .entry))) ≡ firstIn (i + 8) k (drop (i + 8) (now (cells .entry)))) ⌝ }
+{
+    four_cells(cells, i, k) | four_cells(cells, i + 4, k)
+}
+
+fn sixteen_cells(cells: &[u8], i: usize, k: u8) -> bool
+    requires { ⌜ i + 16 ≤ length (now cells) ⌝ }
+    ensures { λ r. ⌜ (r ≡ false → firstIn i k (drop i (now (cells .entry))) ≡ firstIn (i + 16) k (drop (i + 16) (now (cells .entry)))) ⌝ }
+{
+    eight_cells(cells, i, k) | eight_cells(cells, i + 8, k)
+}
+
+// A place before which, from another on, no cell is k: the cells are passed sixteen at a time.
+fn past_cells(cells: &[u8], from: usize, k: u8) -> usize
+    requires { ⌜ from ≤ length (now cells) ⌝ }
+    ensures { λ r. ⌜ (r ≤ length (now (cells .entry))) × (firstIn from k (drop from (now (cells .entry))) ≡ firstIn r k (drop r (now (cells .entry)))) ⌝ }
+{
+    let mut i = from;
+    while 16 <= cells.len() - i {
+        if sixteen_cells(cells, i, k) {
+            return i;
+        }
+        i += 16;
+    }
+    i
+}
+
+// The first place, from a place on, whose cell is k.
+pub fn cell_from(cells: &[u8], from: usize, k: u8) -> usize
+    ensures { λ r. ⌜ r ≡ number (length (now (cells .entry))) (firstIn from k (drop from (now (cells .entry)))) ⌝ }
+{
+    let n = cells.len();
+    if n <= from {
+        return n;
+    }
+    let mut i = past_cells(cells, from, k);
+    while i < n {
+        if cells[i] == k {
+            return i;
+        }
+        i += 1;
+    }
+    i
+}
+
 // An id is in a list.
 pub fn member(ids: &[u16], x: u16) -> bool
     ensures { λ r. ⌜ r ≡ memberOf x (now (ids .entry)) ⌝ }

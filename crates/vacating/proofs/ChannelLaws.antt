@@ -1,22 +1,27 @@
 -- What becomes of a channel, and where the sweep of the table starts.
 use mathlib.Core.Path.{_≡_, refl, sym, ap, _∙_}
-use mathlib.Core.Bool.{true, false}
+use mathlib.Core.Bool.{Bool, true, false, _&&_, and-true, and-false}
 use mathlib.Core.List.{List}
 use mathlib.Core.Option.{Option, none, some}
-use Prim.Native.Nat.{ℕ, _≤_, _<_}
-use borrow.Author.Tests.{eq-eqb, ne-eqb}
+use Prim.Native.Nat.{ℕ}
+use native.Mathlib.Omega.{arith}
+use borrow.Author.Tests.{eq-eqb, ne-eqb, ltb-true, ltb-false}
+use lib.Dec.{ltb}
 use lib.ListN.{length}
-use Rattle.places.specs.Sets.{if_then_else_, has, minus, meet, links, seats}
-use Rattle.places.specs.Places.{Place, At, Nowhere, find, number}
+use Rattle.places.specs.Sets.{if_then_else_, member, has, with, minus, meet, links, seats}
+use Rattle.places.specs.Places.{Place, At, Nowhere, find, found, number}
 use Rattle.places.specs.Swept.{anywhere}
-use Rattle.places.proofs.Answers.{find-at, find-nowhere}
+use Rattle.places.proofs.Marks.{meet-none}
+use Rattle.places.proofs.Rows.{find-holds}
+use Rattle.places.proofs.Answers.{seen-found, unseen}
 use Rattle.places.proofs.Sweeps.{Sweeps, sweeps-start}
 use Rattle.domain.specs.declared.channel.Kind.the-variants.{Static, User, Private, Assigned}
 use Rattle.domain.specs.declared.channel.Channel.{Channel}
-use Rattle.domain.specs.Cells.{no-channel, kind, with-marks}
-use Rattle.domain.specs.Tables.{Users, channel-cells, lapses, marked}
-use Rattle.domain.specs.Channels.{private}
+use Rattle.domain.specs.Cells.{no-channel, kind, with-marks, with-guests}
+use Rattle.domain.specs.Tables.{Users, hosts, channel-cells, lapses, marked}
+use Rattle.domain.specs.Channels.{places, private}
 use Rattle.domain.specs.Leaving.{fate, fate-of}
+use Rattle.domain.proofs.Listed.{places-has}
 use Rattle.tables.proofs.ChannelSweeps.{channel-count}
 use Rattle.vacating.specs.declared.channels.Fate.{Fate}
 use Rattle.vacating.specs.Fates.{fateOf, gone-at}
@@ -35,15 +40,30 @@ module _ (ch : Channel) (m : ℕ) where
   unfolding marked
   mark-stays l = rw l refl
 
--- ---- a user id channel
-module _ (names : List ℕ) (gone c r : ℕ) (e : r ≡ number (length names) (find names c)) where
-  pub user-at : r < length names → has gone r ≡ gone-at gone (find names c)
-  unfolding gone-at
-  user-at h = rw (find-at names c r e h) refl
+-- ---- a private channel that nobody joined: nobody stays joined
+pub private-none : (us : Users) (ch : Channel) (g guests m : ℕ) → m ≡ 0 → with-guests ch guests 0 ≡ private us ch g guests m
+unfolding private
+private-none us ch g guests m e = rw (e, meet-none links (hosts us (with seats guests g))) refl
 
-  pub user-nowhere : length names ≤ r → false ≡ gone-at gone (find names c)
-  unfolding gone-at
-  user-nowhere h = rw (find-nowhere names c r e h) refl
+-- ---- a user id channel: its user is found at the place of one of those listed where it is listed itself
+module _ (us : Users) (sized : length (us .ids) ≡ 64) (list : List ℕ) (c : ℕ) where
+  gone-listed : gone-at (places us list) (find (us .ids) c) ≡ (member c list && found (find (us .ids) c))
+  unfolding gone-at found
+  gone-listed = go (find (us .ids) c) refl
+    where
+      go : (w : Place) → find (us .ids) c ≡ w → gone-at (places us list) w ≡ (member c list && found w)
+      go (At i) e = places-has us c i e (omega (arith, find-holds (us .ids) c i e)) list ∙ sym (and-true (member c list))
+      go Nowhere e = sym (and-false (member c list))
+
+  pub user-unlisted : member c list ≡ false → false ≡ gone-at (places us list) (find (us .ids) c)
+  user-unlisted m = sym (gone-listed ∙ rw m refl)
+
+  pub user-listed : (n r : ℕ) → n ≡ 64 → member c list ≡ true → r ≡ number (length (us .ids)) (find (us .ids) c) → ltb r n ≡ gone-at (places us list) (find (us .ids) c)
+  user-listed n r k m e = go (ltb r n) refl ∙ sym (gone-listed ∙ rw m refl)
+    where
+      go : (b : Bool) → ltb r n ≡ b → b ≡ found (find (us .ids) c)
+      go true q = sym (seen-found (us .ids) c r e (omega (arith, ltb-true r n q)))
+      go false q = sym (unseen (us .ids) c r e (omega (arith, ltb-false r n q)))
 
 -- ---- the fate by the channel's kind
 module _ (us : Users) (gone live c : ℕ) (ch : Channel) (m : ℕ) (e : m ≡ meet links (ch .marks) live) where

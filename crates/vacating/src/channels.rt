@@ -1,11 +1,12 @@
 // The channels once some users have left, and some connections.
 ghost use mathlib.Core.Path.{_≡_};
-ghost use Prim.Native.Nat.{_<_};
+ghost use mathlib.Core.List.{List};
+ghost use Prim.Native.Nat.{ℕ, _<_};
 ghost use Rattle.places.specs.Places.{find as findIn};
 ghost use Rattle.places.specs.Swept.{Turns, anywhere};
 ghost use Rattle.domain.specs.Cells.{no-channel};
 ghost use Rattle.domain.specs.Tables.{users-of, channels-of, channel-cells, marked as markedOf, sweep-channels};
-ghost use Rattle.domain.specs.Channels.{private as privateOf};
+ghost use Rattle.domain.specs.Channels.{places as placesOf, private as privateOf};
 ghost use Rattle.domain.specs.Leaving.{fate as fateIn};
 ghost use Rattle.vacating.specs.Fates.{fateOf, gone-at};
 use domain::channel::Channel;
@@ -35,10 +36,18 @@ fn marked(ch: Channel, m: u16) -> Fate
     })
 }
 
-// A private channel with these admitted: a connection stays joined only with the manager g or one of them.
+// A private channel with these admitted: a connection stays joined only with the manager g or one of them. Where none is joined none is sought.
 fn private(names: &[u16; 64], homes: &[u8; 64], ch: Channel, g: u8, guests: u64, m: u16) -> Channel
     ensures { λ r. ⌜ r ≡ privateOf (users-of (now (names .entry)) (now (homes .entry))) ch g guests m ⌝ }
 {
+    if m == 0 {
+        return Channel {
+            role: ch.role,
+            chair: ch.chair,
+            guests: guests,
+            marks: 0,
+        };
+    }
     let held = tables::users::hosts(names, homes, places::masks::with_seat(guests, g));
     Channel {
         role: ch.role,
@@ -48,21 +57,29 @@ fn private(names: &[u16; 64], homes: &[u8; 64], ch: Channel, g: u8, guests: u64,
     }
 }
 
-// User c is at one of the places of a mask.
-fn user_gone(names: &[u16; 64], gone: u64, c: u16) -> bool
-    ensures { λ r. ⌜ r ≡ gone-at gone (findIn (now (names .entry)) c) ⌝ }
+// User c is one of those listed: its place is among theirs. Most channels' ids are not listed, and no place is sought.
+fn user_gone(names: &[u16; 64], list: &[u16], c: u16) -> bool
+    ensures { λ r. ⌜ ((homes : List ℕ) → r ≡ gone-at (placesOf (users-of (now (names .entry)) homes) (now (list .entry))) (findIn (now (names .entry)) c)) ⌝ }
 {
+    // How many places there are: an id that is found nowhere is at that number.
     let all = names[..].len();
-    let i = places::columns::find(names, c);
-    if i < all {
-        let k = i as u8;
-        return places::masks::has(gone, k);
+    if !places::columns::member(list, c) {
+        return false;
     }
-    false
+    places::columns::find(names, c) < all
 }
 
-// What becomes of channel c.
-fn fate_of(names: &[u16; 64], homes: &[u8; 64], gone: u64, live: u16, c: u16, ch: Channel) -> Fate
+// What becomes of channel c; `gone` are the places of those listed.
+fn fate_of(
+    names: &[u16; 64],
+    homes: &[u8; 64],
+    list: &[u16],
+    gone: u64,
+    live: u16,
+    c: u16,
+    ch: Channel,
+) -> Fate
+    requires { ⌜ gone ≡ placesOf (users-of (now names) (now homes)) (now list) ⌝ }
     ensures { λ r. ⌜ fateOf r ≡ fateIn (users-of (now (names .entry)) (now (homes .entry))) gone live c ch ⌝ }
 {
     let m = places::masks::common_links(ch.marks, live);
@@ -70,7 +87,7 @@ fn fate_of(names: &[u16; 64], homes: &[u8; 64], gone: u64, live: u16, c: u16, ch
     match k {
         Kind::Static => marked(ch, m),
         Kind::User => {
-            if user_gone(names, gone, c) {
+            if user_gone(names, list, c) {
                 return Fate::Ends;
             }
             marked(ch, m)
@@ -95,11 +112,12 @@ fn leave_place(
     chairs: &mut [u8; 128],
     guests: &mut [u64; 128],
     marks: &mut [u16; 128],
+    list: &[u16],
     gone: u64,
     live: u16,
     j: usize,
 )
-    requires { ⌜ j < 128 ⌝ }
+    requires { ⌜ (j < 128) × (gone ≡ placesOf (users-of (now names) (now homes)) (now list)) ⌝ }
     ensures { λ _. ⌜ Turns no-channel (anywhere (fateIn (users-of (now (names .entry)) (now (homes .entry))) gone live)) j
         (now (ids .entry)) (channel-cells (now (roles .entry)) (now (chairs .entry)) (now (guests .entry)) (now (marks .entry)))
         (now (ids .exit)) (channel-cells (now (roles .exit)) (now (chairs .exit)) (now (guests .exit)) (now (marks .exit))) ⌝ }
@@ -109,7 +127,7 @@ fn leave_place(
         return;
     }
     let ch = tables::channels::channel_at(roles, chairs, guests, marks, j);
-    let f = fate_of(names, homes, gone, live, c, ch);
+    let f = fate_of(names, homes, list, gone, live, c, ch);
     match f {
         Fate::Ends => {
             tables::channels::end_channel(ids, roles, chairs, guests, marks, j);
@@ -120,7 +138,7 @@ fn leave_place(
     }
 }
 
-// The users at the places `gone` leave and the connections `live` remain.
+// The users listed leave and the connections `live` remain.
 pub fn leave(
     names: &[u16; 64],
     homes: &[u8; 64],
@@ -129,13 +147,14 @@ pub fn leave(
     chairs: &mut [u8; 128],
     guests: &mut [u64; 128],
     marks: &mut [u16; 128],
-    gone: u64,
+    list: &[u16],
     live: u16,
 )
     ensures { λ _. ⌜ channels-of (now (ids .exit)) (now (roles .exit)) (now (chairs .exit)) (now (guests .exit)) (now (marks .exit))
-        ≡ sweep-channels (fateIn (users-of (now (names .entry)) (now (homes .entry))) gone live)
+        ≡ sweep-channels (fateIn (users-of (now (names .entry)) (now (homes .entry))) (placesOf (users-of (now (names .entry)) (now (homes .entry))) (now (list .entry))) live)
         (channels-of (now (ids .entry)) (now (roles .entry)) (now (chairs .entry)) (now (guests .entry)) (now (marks .entry))) ⌝ }
 {
+    let gone = tables::users::places_of(names, list);
     // How long the columns are: what the loop keeps.
     let n1 = ids[..].len();
     let n2 = roles[..].len();
@@ -152,6 +171,7 @@ pub fn leave(
             chairs,
             guests,
             marks,
+            list,
             gone,
             live,
             j,

@@ -1,11 +1,27 @@
--- One id more where the channel ends, else the list as it was.
-use mathlib.Core.Path.{sym, _∙_}
+-- The id is stored behind the first n, and the count says whether it counts.
+use mathlib.Core.Path.{ap, _∙_}
+use mathlib.Core.Bool.{Bool, _&&_}
 use native.Mathlib.Omega.{arith}
+use lib.Dec.{ltb}
 use lib.ListN.{getD, length-set}
 use borrow.Author.Needs.{needs}
-use Rattle.places.proofs.Kept.{more-yes, more-no}
+use Rattle.places.specs.Sets.{if_then_else_}
+use Rattle.places.proofs.Kept.{one-more}
+use Rattle.farewell.proofs.Quiet.{ends-there}
 use Rattle.farewell.proofs.add_end.Statement.{statement}
 use Rattle.farewell.proofs.add_end.Tie as tie
+
+mul-c : tie.Need-mul-c
+mul-c c = search needs
+
+element-copy-out-c : tie.Need-element-copy-out-c
+element-copy-out-c c = search needs
+
+mul-ending : tie.Need-mul-ending
+mul-ending c = search needs
+
+element-write-ending : tie.Need-element-write-ending
+element-write-ending c = search needs
 
 element-copy-out-ends : tie.Need-element-copy-out-ends
 element-copy-out-ends c = search needs
@@ -16,41 +32,31 @@ element-copy-out-ends-2 c = search needs
 ends-requires : tie.Need-ends-requires
 ends-requires c κs = search needs
 
-mul-ending : tie.Need-mul-ending
-mul-ending c = search needs
-
-element-copy-out-ending : tie.Need-element-copy-out-ending
-element-copy-out-ending c = search needs
-
-mul-ending-2 : tie.Need-mul-ending-2
-mul-ending-2 c = search needs
-
-element-write-ending : tie.Need-element-write-ending
-element-write-ending c = search needs
+counts-requires : tie.Need-counts-requires
+counts-requires c κs = search needs
 
 add-result : tie.Need-add-result
-add-result c = search needs
+add-result c = omega (arith, c .counts .ensures .1)
 
 returns : tie.Need-returns
-returns c = let a = c .before .before .before .before .before .before .before .args in
+returns c =
+    let a = c .before .before .before .before .before .before .before .args in
     let x = getD (a .ids .now) (a .j) 0 in
-    (more-yes (a .ending .now) (a .n) x (omega arith) (sym (c .before .before .ends .ensures) ∙ c .before .if1 .taken), omega arith, omega (arith, length-set (a .ending .now) (a .n) x))
-
-returns-2 : tie.Need-returns-2
-returns-2 c = let a = c .before .before .before .before .before .before .args in
-    (more-no (a .ending .now) (a .n) (getD (a .ids .now) (a .j) 0) (sym (c .before .ends .ensures) ∙ c .if1 .left), omega arith, omega arith)
+    let e = c .counts .ensures .0 ∙ ap (λ (b : Bool). if b && ltb 0 x then 1 else 0) (c .before .ends .ensures) in
+    let test = ends-there (a .gone) (a .roles .now) (a .chairs .now) (a .j) && ltb 0 x in
+    (one-more (a .ending .now) (a .n) x (c .counts .result) test (omega arith) e, omega (arith, c .counts .ensures .1), omega (arith, c .counts .ensures .1, length-set (a .ending .now) (a .n) x))
 
 pub add-end-spec : {M : Type 1} → statement M
 add-end-spec =
     tie.close
     (tie.spec
+    mul-c
+    element-copy-out-c
+    mul-ending
+    element-write-ending
     element-copy-out-ends
     element-copy-out-ends-2
     ends-requires
-    mul-ending
-    element-copy-out-ending
-    mul-ending-2
-    element-write-ending
+    counts-requires
     add-result
-    returns
-    returns-2)
+    returns)

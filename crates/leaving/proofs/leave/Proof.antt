@@ -31,6 +31,9 @@ returns c =
 farewell-requires : tie.Need-farewell-requires
 farewell-requires c κs = search needs
 
+slice-aggregate-leave : tie.Need-slice-aggregate-leave
+slice-aggregate-leave c = slice-aggregate-places-of (c .before .before .before .before .before .before .before .before .before .before .before .before .before .before .before .before .before .before .before .before .before .before .before .before .before .before .before .before .before .before .before .before .before .before .before)
+
 leave-requires : tie.Need-leave-requires
 leave-requires c κs = search needs
 
@@ -45,12 +48,12 @@ same-length c = search needs
 
 returns-2 : tie.Need-returns-2
 returns-2 c =
-    let a = c .before .before .before .before .before .before .before .before .before .before .before .before .before .before .before .before .before .before .before .before .before .before .before .before .before .before .before .before .before .before .before .before .before .before .before .before .before .before .before .before .before .before .before .before .before .before .args in λ l.
-    let yes = c .before .before .before .before .before .before .before .before .before .before .before .before .before .before .before .before .before .before .before .before .before .before .before .before .before .before .before .before .before .before .fits2 .ensures l (a .links .now) .0 (not-false _ (c .before .before .before .before .before .before .before .before .before .before .before .before .before .before .before .before .before .before .before .before .before .before .before .before .before .before .before .before .before .if1 .left)) in
-    let put = c .before .before .before .before .before .before .before .before .before .before .before .before .before .before .before .before .before .farewell .ensures l (a .links .now) in
+    let a = c .before .before .before .before .before .before .before .before .before .before .before .before .before .before .before .before .before .before .before .before .before .before .before .before .before .before .before .before .before .before .before .before .before .before .before .before .before .before .before .before .before .before .before .before .before .before .before .args in λ l.
+    let yes = c .before .before .before .before .before .before .before .before .before .before .before .before .before .before .before .before .before .before .before .before .before .before .before .before .before .before .before .before .before .before .before .fits2 .ensures l (a .links .now) .0 (not-false _ (c .before .before .before .before .before .before .before .before .before .before .before .before .before .before .before .before .before .before .before .before .before .before .before .before .before .before .before .before .before .before .if1 .left)) in
+    let put = c .before .before .before .before .before .before .before .before .before .before .before .before .before .before .before .before .before .before .farewell .ensures l (a .links .now) in
     leave-done l (a .links .now) (users-of (a .names .now) (a .homes .now))
     (channels-of (a .ids .now) (a .roles .now) (a .chairs .now) (a .guests .now) (a .marks .now)) (tokens-of (a .keys .now) (a .modes .now) (a .values .now))
-    (a .live) (a .reason) (take (a .count) (a .list .now)) (a .out .now) (c .before .before .before .before .before .before .before .before .before .before .before .before .before .before .before .before .before .before .before .before .before .before .before .before .before .before .before .before .before .before .before .before .before .before .before .before .before .before .before .before .before .places-of .result) (c .before .before .before .before .before .before .before .before .before .before .before .before .before .before .before .before .before .before .before .before .before .before .before .before .before .before .before .before .before .before .before .before .before .before .before .before .before .before .before .before .before .places-of .ensures (a .homes .now)) _ (put .next) (omega (arith, put .next))
+    (a .live) (a .reason) (take (a .count) (a .list .now)) (a .out .now) (c .before .before .before .before .before .before .before .before .before .before .before .before .before .before .before .before .before .before .before .before .before .before .before .before .before .before .before .before .before .before .before .before .before .before .before .before .before .before .before .before .before .before .places-of .result) (c .before .before .before .before .before .before .before .before .before .before .before .before .before .before .before .before .before .before .before .before .before .before .before .before .before .before .before .before .before .before .before .before .before .before .before .before .before .before .before .before .before .before .places-of .ensures (a .homes .now)) _ (put .next) (omega (arith, put .next))
     _ _ _ _ _ _ (c .before .before .before .before .leave2 .ensures) (c .before .before .before .before .before .before .before .leave .ensures) (c .leave3 .ensures) refl put
 
 pub leave-spec : {M : Type 1} → statement M
@@ -62,6 +65,7 @@ leave-spec =
     fits-requires
     returns
     farewell-requires
+    slice-aggregate-leave
     leave-requires
     leave-requires-2
     leave-requires-3

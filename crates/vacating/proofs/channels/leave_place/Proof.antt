@@ -16,7 +16,7 @@ element-copy-out-c : tie.Need-element-copy-out-c
 element-copy-out-c c = search needs
 
 returns : tie.Need-returns
-returns c = let a = c .before .before .args in
+returns c = let a = c .before .before .before .args in
     turn-free no-channel (anywhere (fate (users-of (a .names .now) (a .homes .now)) (a .gone) (a .live))) _ _ _ (c .if1 .taken)
 
 channel-at-requires : tie.Need-channel-at-requires
@@ -39,7 +39,7 @@ set-channel-requires c κs = search needs
 
 returns-2 : tie.Need-returns-2
 returns-2 c =
-    let a = c .before .before .before .before .before .before .before .before .before .before .before .before .before .before .before .before .args in
+    let a = c .before .before .before .before .before .before .before .before .before .before .before .before .before .before .before .before .before .args in
     let f = fate (users-of (a .names .now) (a .homes .now)) (a .gone) (a .live) in
     let found = c .before .before .before .before .before .before .before .before .before .channel-at in
     let fate = c .before .before .before .before .before .before .before .before .fate-of in
@@ -48,7 +48,7 @@ returns-2 c =
 
 returns-3 : tie.Need-returns-3
 returns-3 c =
-    let a = c .before .before .before .before .before .before .before .before .before .before .before .before .before .before .before .before .args in
+    let a = c .before .before .before .before .before .before .before .before .before .before .before .before .before .before .before .before .before .args in
     let f = fate (users-of (a .names .now) (a .homes .now)) (a .gone) (a .live) in
     let found = c .before .before .before .before .before .before .before .before .before .channel-at in
     let fate = c .before .before .before .before .before .before .before .before .fate-of in
