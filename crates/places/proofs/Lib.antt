@@ -6,7 +6,6 @@ pub mod Digits
 pub mod Counts
 pub mod Marks
 pub mod Nexts
--- any table of places: a search and a loop, the places in use, what each place holds, a table in order and what keeps it so, what each id holds, the ids listed
 -- any table of places: a search and a loop, the nearest place that passes, the places in use, what each place holds, a table in order and what keeps it so, what each id holds, the ids listed
 pub mod Places
 pub mod Nearest
