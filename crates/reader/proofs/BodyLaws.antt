@@ -1,30 +1,25 @@
 -- A message: what `decode_body`, `decode_row` and `decode` answer. Assumes nothing.
-use mathlib.Core.Path.{_≡_, refl, subst, sym, ap, _∙_}
-use mathlib.Core.Bool.{Bool, true, false, cond}
-use mathlib.Core.List.{List, []}
+use mathlib.Core.Path.{_≡_, subst, sym, ap, _∙_}
+use mathlib.Core.Bool.{true, false, cond}
+use mathlib.Core.List.{List}
 use Prim.Native.Nat.{ℕ, _+_, _-_, _/_}
 use native.Mathlib.Omega.{arith}
 use lib.ListN.{length, take, drop, drop-of-length-le}
 use lib.Seq.{drop-cons}
 use lib.Dec.{eqb}
 use borrow.Author.Tests.{eq-eqb, ne-eqb}
-use Rattle.messages.specs.Limits.{list-limit}
 use Rattle.octets.specs.Octets.{Reader, follow, need, give, Tail, readTail}
-use Rattle.messages.specs.Codec.{ok, refuse, ending}
+use Rattle.messages.specs.Codec.{Msg, ok, refuse, ending}
 use Rattle.octets.specs.Places.{bitsAt, behind}
 use Rattle.reader.specs.Reading.{atFields, TakesFields, itemsOf, atItems, ReadsItems, message, bodyAt}
 use Rattle.messages.specs.Columns.{tailAt, fieldsOf, tailOf}
 use Rattle.reader.specs.declared.Fields.{Fields}
 use Rattle.reader.specs.declared.Items.{Items}
-use Rattle.reader.specs.Held.{padded, isString, decoded}
+use Rattle.reader.specs.Held.{isString, decoded, headOf, hasIds, kept, Reads}
 use Rattle.reader.proofs.HeldLaws.{by-fields}
 
 abbrev behindAt : ℕ → Tail
 behindAt n = tailOf (tailAt n)
-
-no-string : (o : Bool) (s : List ℕ) (start count : ℕ) (ids : List ℕ) → cond o [] (itemsOf s o start count ids) ≡ cond o [] (take count ids)
-no-string true s start count ids = refl
-no-string false s start count ids = refl
 
 behindFields : Tail → List ℕ × ℕ → Reader (List ℕ × List ℕ)
 behindFields t r = need (eqb (r .1) 0) 5 (λ os. follow (readTail t os) (λ items. give (r .0, items)))
@@ -42,10 +37,10 @@ module _ (s : List ℕ) (at count number : ℕ) (f : Fields) (t : TakesFields s 
     unfolding behindFields
     body-pad n = whole ∙ rw (e, ne-eqb (bitsAt s (f .at)) 0 (rw b at n))
 
-    module _ (z : bits ≡ 0) (k : ℕ) (same : k ≡ tailAt number) (u : Items) (i : ReadsItems s (eqb k 3) u (readTail (tailOf k) (drop ((f .at + 7) / 8) s))) where
-      rest : bodyAt s at count number ≡ ending (follow (follow (atItems s u (u .ok)) (λ items. give (take count (f .values), items))) (message number))
+    module _ (z : bits ≡ 0) (k : ℕ) (same : k ≡ tailAt number) (u : Items) (before after : List ℕ) (i : ReadsItems s (eqb k 3) (hasIds k) u before after (readTail (tailOf k) (drop ((f .at + 7) / 8) s))) where
+      rest : bodyAt s at count number ≡ ending (follow (follow (atItems s u after (u .ok)) (λ items. give (take count (f .values), items))) (message number))
       unfolding behindFields behind
-      rest = whole ∙ rw (e, eq-eqb (bitsAt s (f .at)) 0 (sym b ∙ z)) (ap (λ x. ending (follow (follow x (λ items. give (take count (f .values), items))) (message number))) (subst (λ n. readTail (tailOf n) (drop ((f .at + 7) / 8) s) ≡ atItems s u (u .ok)) same (sym (i .same))))
+      rest = whole ∙ rw (e, eq-eqb (bitsAt s (f .at)) 0 (sym b ∙ z)) (ap (λ x. ending (follow (follow x (λ items. give (take count (f .values), items))) (message number))) (subst (λ n. readTail (tailOf n) (drop ((f .at + 7) / 8) s) ≡ atItems s u after (u .ok)) same (sym (i .same))))
 
       pub body-tail-no : u .ok ≡ false → bodyAt s at count number ≡ refuse (u .refusal)
       body-tail-no k = rest ∙ rw k
@@ -53,24 +48,28 @@ module _ (s : List ℕ) (at count number : ℕ) (f : Fields) (t : TakesFields s 
       pub body-over : u .ok ≡ true → (u .next ≡ length s → ⊥) → bodyAt s at count number ≡ refuse 5
       body-over k n = rest ∙ rw (k, drop-cons s (u .next) 0 (omega (arith, i .inside)))
 
-      body-whole : u .ok ≡ true → u .next ≡ length s
-          → bodyAt s at count number ≡ ok (record { number = number; values = take count (f .values); items = itemsOf s (eqb k 3) (u .start) (u .count) (u .ids) })
+      message-read : Msg
+      message-read = record { number = number; values = take count (f .values); items = itemsOf s (eqb k 3) (u .start) (u .count) after }
+
+      body-whole : u .ok ≡ true → u .next ≡ length s → bodyAt s at count number ≡ ok message-read
+      unfolding message-read
       body-whole g n = rest ∙ rw (g, i .holds g .kind, drop-of-length-le s {i = u .next} (omega arith))
 
-      read : List ℕ
-      read = itemsOf s (eqb k 3) (u .start) (u .count) (u .ids)
-
-      body-start : u .ok ≡ true → u .next ≡ length s → u .start ≡ cond (isString number) (length s - length read) 0
-      unfolding read
+      body-start : u .ok ≡ true → u .next ≡ length s → u .start ≡ cond (isString number) (length s - length (message-read .items)) 0
+      unfolding message-read
       body-start g n = rw (i .holds g .many, ← n, ← same) (i .holds g .starts)
 
-      body-cells : u .ok ≡ true → u .ids ≡ padded list-limit (cond (isString number) [] read)
-      unfolding read
-      body-cells g = rw (← same) (i .holds g .cells ∙ ap (λ l. padded list-limit l) (sym (no-string (eqb k 3) s (u .start) (u .count) (u .ids))))
+      body-kept : u .ok ≡ true → after ≡ kept message-read before
+      unfolding message-read kept
+      body-kept g = rw (← same) (i .holds g .cells)
 
       pub body-is : u .ok ≡ true → u .next ≡ length s
-          → record { ok = true; refusal = 0; number = number; have = count; values = f .values; count = u .count; octets = u .octets; start = u .start; ids = u .ids } ≡ decoded s (bodyAt s at count number)
-      unfolding decoded read
+          → Reads s (bodyAt s at count number) before after (record { ok = true; refusal = 0; number = number; have = count; values = f .values; count = u .count; octets = u .octets; start = u .start })
+      unfolding decoded headOf message-read
       body-is g n =
-          by-fields number (sym (t .cells e .1)) (t .cells e .0) (sym (i .holds g .many)) (i .holds g .kind ∙ ap (λ j. eqb j 3) same) (body-start g n) (body-cells g)
-          ∙ ap (λ o. decoded s o) (sym (body-whole g n))
+          record {
+            head =
+                by-fields number (sym (t .cells e .1)) (t .cells e .0) (sym (i .holds g .many)) (i .holds g .kind ∙ ap (λ j. eqb j 3) same) (body-start g n)
+                ∙ ap (λ o. headOf (decoded s o)) (sym (body-whole g n));
+            list = λ m w. let z : message-read ≡ m = cc (body-whole g n) in body-kept g ∙ ap (λ x. kept x before) z;
+          }

@@ -18,7 +18,7 @@ use Rattle.octets.specs.Places.{Octetwise}
 use Rattle.messages.specs.Columns.{tailOf}
 use Rattle.reader.specs.Reading.{listed, restOf, ReadsItems}
 use Rattle.reader.specs.declared.Items.{Items}
-use Rattle.reader.specs.Held.{padded}
+use Rattle.reader.specs.Held.{padded, hasIds}
 use Rattle.reader.proofs.HeldLaws.{clear-more, padded-all, unlike}
 use Rattle.octets.specs.declared.Got.{Got}
 use Rattle.octets.specs.declared.Got.the-variants.{Value, No}
@@ -36,20 +36,21 @@ octets-are zero xs h = refl
 octets-are (suc n) [] h = absurd (omega arith)
 octets-are (suc n) (x ∷ xs) h = ap (λ r. follow r (λ us. give (x ∷ us))) (octets-are n xs (omega arith))
 
-pub items-no : (s : List ℕ) (octets : Bool) (r : Items) (n : ℕ) (spec : Read (List ℕ)) → (r .ok ≡ false) × (r .refusal ≡ n) × (r .next ≡ 0) → spec ≡ no n → ReadsItems s octets r spec
-items-no s octets r n spec h e = record { same = rw (h .0, h .1) (sym e); inside = omega arith; holds = λ k. absurd (unlike (sym (h .0) ∙ k)) }
+pub items-no : (s : List ℕ) (octets ids : Bool) (r : Items) (n : ℕ) (spec : Read (List ℕ)) {before after : List ℕ} → (r .ok ≡ false) × (r .refusal ≡ n) × (r .next ≡ 0) → spec ≡ no n
+    → ReadsItems s octets ids r before after spec
+items-no s octets ids r n spec h e = record { same = rw (h .0, h .1) (sym e); inside = omega arith; holds = λ k. absurd (unlike (sym (h .0) ∙ k)) }
 
 module _ (s : List ℕ) (from count : ℕ) (h : from ≤ length s) where
-  pub octets-no : (r : Items) → (r .ok ≡ false) × (r .refusal ≡ 5) × (r .next ≡ 0) → length s < from + count → ReadsItems s true r (readItems anOctet count (drop from s))
-  octets-no r e l = items-no s true r 5 _ e (octets-short count (drop from s) (omega (arith, length-drop from s)))
+  pub octets-no : (r : Items) (ids : List ℕ) → (r .ok ≡ false) × (r .refusal ≡ 5) × (r .next ≡ 0) → length s < from + count → ReadsItems s true false r ids ids (readItems anOctet count (drop from s))
+  octets-no r ids e l = items-no s true false r 5 _ e (octets-short count (drop from s) (omega (arith, length-drop from s)))
 
-  pub octets-is : (ids : List ℕ) → ids ≡ replicate list-limit 0 → from + count ≤ length s
-      → ReadsItems s true (record { ok = true; refusal = 0; next = from + count; count = count; octets = true; start = from; ids = ids }) (readItems anOctet count (drop from s))
-  octets-is ids z l =
+  pub octets-is : (ids : List ℕ) → from + count ≤ length s
+      → ReadsItems s true false (record { ok = true; refusal = 0; next = from + count; count = count; octets = true; start = from }) ids ids (readItems anOctet count (drop from s))
+  octets-is ids l =
       record {
         same = sym (octets-are count (drop from s) (omega (arith, length-drop from s)) ∙ ap (λ k. got (take count (drop from s)) k) (drop-drop count from s));
         inside = l;
-        holds = λ k. record { kind = refl; many = length-take-le count (drop from s) (omega (arith, length-drop from s)); starts = omega arith; cells = z };
+        holds = λ k. record { kind = refl; many = length-take-le count (drop from s) (omega (arith, length-drop from s)); starts = omega arith; cells = refl };
       }
 
 -- ids, one after the other: the invariant of `read_ids`. It holds for items of any kind.
@@ -117,8 +118,8 @@ ids-more {s} {low} {at = at} o m g v next e t h =
     let z : v % 65536 ≡ v = mod-eq-of-lt (omega arith) in
     rw z (sofar-more o m g v next e t h)
 
-pub ids-all : {s : List ℕ} {low from count : ℕ} {vs : List ℕ} {at i : ℕ} → Sofar s (anId low) from count vs at i → count ≤ i → count ≤ list-limit
-    → ReadsItems s false (record { ok = true; refusal = 0; next = at; count = count; octets = false; start = 0; ids = vs }) (readItems (anId low) count (drop from s))
+pub ids-all : {s : List ℕ} {low from count : ℕ} {before vs : List ℕ} {at i : ℕ} → Sofar s (anId low) from count vs at i → count ≤ i → count ≤ list-limit
+    → ReadsItems s false true (record { ok = true; refusal = 0; next = at; count = count; octets = false; start = 0 }) before vs (readItems (anId low) count (drop from s))
 unfolding prepend
 ids-all {count = count} {vs = vs} {i = i} o h few =
     let z : i ≡ count = omega (arith, o .within) in
@@ -137,28 +138,28 @@ ids-all {count = count} {vs = vs} {i = i} o h few =
     }
 
 -- by kind, behind the length
-module _ (s : List ℕ) (from kind n : ℕ) (r : Items) where
-  pub list-more : (r .ok ≡ false) × (r .refusal ≡ 8) × (r .next ≡ 0) → kind ≡ 3 → string-limit < n → ReadsItems s (eqb kind 3) r (listed kind n (drop from s))
+module _ (s : List ℕ) (from kind n : ℕ) (r : Items) (before after : List ℕ) where
+  pub list-more : (r .ok ≡ false) × (r .refusal ≡ 8) × (r .next ≡ 0) → kind ≡ 3 → string-limit < n → ReadsItems s (eqb kind 3) (hasIds kind) r before after (listed kind n (drop from s))
   unfolding listed tailOf
-  list-more e k l = items-no s (eqb kind 3) r 8 _ e (rw k (simp (lt-leb n string-limit l)))
+  list-more e k l = items-no s (eqb kind 3) (hasIds kind) r 8 _ e (rw k (simp (lt-leb n string-limit l)))
 
-  pub list-more-ids : (r .ok ≡ false) × (r .refusal ≡ 8) × (r .next ≡ 0) → (kind ≡ 0 → ⊥) → (kind ≡ 3 → ⊥) → list-limit < n → ReadsItems s (eqb kind 3) r (listed kind n (drop from s))
+  pub list-more-ids : (r .ok ≡ false) × (r .refusal ≡ 8) × (r .next ≡ 0) → (kind ≡ 0 → ⊥) → (kind ≡ 3 → ⊥) → list-limit < n → ReadsItems s (eqb kind 3) (hasIds kind) r before after (listed kind n (drop from s))
   unfolding listed tailOf
-  list-more-ids e z k l = items-no s (eqb kind 3) r 8 _ e (simp (ne-eqb kind 0 z, ne-eqb kind 3 k) (go (eqb kind 1)))
+  list-more-ids e z k l = items-no s (eqb kind 3) (hasIds kind) r 8 _ e (simp (ne-eqb kind 0 z, ne-eqb kind 3 k) (go (eqb kind 1)))
     where
       go : (t : Bool) → restOf (cond t channels users) n (drop from s) ≡ no 8
       go true = simp (lt-leb n list-limit l)
       go false = simp (lt-leb n list-limit l)
 
-  pub list-octets : kind ≡ 3 → n ≤ string-limit → ReadsItems s true r (readItems anOctet n (drop from s)) → ReadsItems s (eqb kind 3) r (listed kind n (drop from s))
+  pub list-octets : kind ≡ 3 → n ≤ string-limit → ReadsItems s true false r before after (readItems anOctet n (drop from s)) → ReadsItems s (eqb kind 3) (hasIds kind) r before after (listed kind n (drop from s))
   unfolding listed tailOf
   list-octets k l b = rw k (simp (le-leb n string-limit l) b)
 
-  pub list-channels : kind ≡ 1 → n ≤ list-limit → ReadsItems s false r (readItems (anId 0) n (drop from s)) → ReadsItems s (eqb kind 3) r (listed kind n (drop from s))
+  pub list-channels : kind ≡ 1 → n ≤ list-limit → ReadsItems s false true r before after (readItems (anId 0) n (drop from s)) → ReadsItems s (eqb kind 3) (hasIds kind) r before after (listed kind n (drop from s))
   unfolding listed tailOf
   list-channels k l b = rw k (simp (le-leb n list-limit l) b)
 
-  pub list-users : (kind ≡ 0 → ⊥) → (kind ≡ 3 → ⊥) → (kind ≡ 1 → ⊥) → n ≤ list-limit → ReadsItems s false r (readItems (anId 1001) n (drop from s)) → ReadsItems s (eqb kind 3) r (listed kind n (drop from s))
+  pub list-users : (kind ≡ 0 → ⊥) → (kind ≡ 3 → ⊥) → (kind ≡ 1 → ⊥) → n ≤ list-limit → ReadsItems s false true r before after (readItems (anId 1001) n (drop from s)) → ReadsItems s (eqb kind 3) (hasIds kind) r before after (listed kind n (drop from s))
   unfolding listed tailOf
   list-users z k j l b = simp (ne-eqb kind 0 z, ne-eqb kind 3 k, ne-eqb kind 1 j, le-leb n list-limit l) b
 
@@ -177,15 +178,15 @@ tail-by-length kind xs z = go (eqb kind 3) (eqb kind 1) (tailOf kind) (tail-of k
     go false false t e = rw e
 
 module _ (s : List ℕ) (from kind : ℕ) where
-  pub tail-none : (ids : List ℕ) → ids ≡ replicate list-limit 0 → kind ≡ 0 → from ≤ length s
-      → ReadsItems s (eqb kind 3) (record { ok = true; refusal = 0; next = from; count = 0; octets = false; start = 0; ids = ids }) (readTail (tailOf kind) (drop from s))
+  pub tail-none : (ids : List ℕ) → kind ≡ 0 → from ≤ length s
+      → ReadsItems s (eqb kind 3) (hasIds kind) (record { ok = true; refusal = 0; next = from; count = 0; octets = false; start = 0 }) ids ids (readTail (tailOf kind) (drop from s))
   unfolding tailOf
-  tail-none ids e z h = record { same = rw z; inside = h; holds = λ k. rw z (record { kind = refl; many = refl; starts = refl; cells = e }) }
+  tail-none ids z h = record { same = rw z; inside = h; holds = λ k. rw z (record { kind = refl; many = refl; starts = refl; cells = refl }) }
 
-  module _ (z : kind ≡ 0 → ⊥) (r : Items) (g : Got) (b : Octetwise s g (readLength (drop from s))) where
-    pub tail-no : (n : ℕ) → g ≡ No n → (r .ok ≡ false) × (r .refusal ≡ n) × (r .next ≡ 0) → ReadsItems s (eqb kind 3) r (readTail (tailOf kind) (drop from s))
-    tail-no n e f = items-no s (eqb kind 3) r n _ f (tail-by-length kind (drop from s) z ∙ ap (λ x. follow x (listed kind)) (sym (rw e at (b .same))))
+  module _ (z : kind ≡ 0 → ⊥) (r : Items) (before after : List ℕ) (g : Got) (b : Octetwise s g (readLength (drop from s))) where
+    pub tail-no : (n : ℕ) → g ≡ No n → (r .ok ≡ false) × (r .refusal ≡ n) × (r .next ≡ 0) → ReadsItems s (eqb kind 3) (hasIds kind) r before after (readTail (tailOf kind) (drop from s))
+    tail-no n e f = items-no s (eqb kind 3) (hasIds kind) r n _ f (tail-by-length kind (drop from s) z ∙ ap (λ x. follow x (listed kind)) (sym (rw e at (b .same))))
 
-    pub tail-is : (n at : ℕ) → g ≡ Value n at → ReadsItems s (eqb kind 3) r (listed kind n (drop at s)) → ReadsItems s (eqb kind 3) r (readTail (tailOf kind) (drop from s))
+    pub tail-is : (n at : ℕ) → g ≡ Value n at → ReadsItems s (eqb kind 3) (hasIds kind) r before after (listed kind n (drop at s)) → ReadsItems s (eqb kind 3) (hasIds kind) r before after (readTail (tailOf kind) (drop from s))
     tail-is n at e c =
         record { same = c .same ∙ sym (tail-by-length kind (drop from s) z ∙ ap (λ x. follow x (listed kind)) (sym (rw e at (b .same)))); inside = c .inside; holds = c .holds }

@@ -1,24 +1,26 @@
 -- A message by its number: what `decode_row` and `decode` answer. Assumes nothing.
 use mathlib.Core.Path.{_≡_, refl, sym, ap, _∙_, subst}
-use mathlib.Core.Bool.{Bool, true, false}
-use mathlib.Core.List.{List}
-use Prim.Native.Nat.{ℕ, _+_, _*_, _<_, _≤_}
+use mathlib.Core.Bool.{Bool, true, false, cond}
+use mathlib.Core.List.{List, [], _∷_}
+use Prim.Native.Nat.{ℕ, suc, _+_, _*_, _<_, _≤_}
 use native.Mathlib.Nat.{add-zero, mod-one}
 use native.Mathlib.Omega.{arith}
 use lib.ListN.{length, getD}
-use lib.Dec.{leb, eqb}
+use lib.Dec.{leb, ltb, eqb}
 use borrow.Author.Tests.{eq-eqb, ne-eqb, eqb-true, eqb-false, lt-ltb, le-leb, lt-leb, leb-true}
 use Rattle.messages.specs.Limits.{message-limit}
-use Rattle.octets.specs.Octets.{Read, follow, give, need, nothing}
+use Rattle.octets.specs.Octets.{Bytes, Read, follow, give, need, nothing}
 use Rattle.octets.specs.Bits.{takeBits}
-use Rattle.octets.proofs.OctetLaws.{followed, needed}
+use Rattle.octets.proofs.OctetLaws.{both-right, followed, needed}
 use Rattle.messages.specs.Messages.{code, kind, Row, plain, optional, uncovered, unknown, row}
-use Rattle.messages.specs.Codec.{takeField, takeBody, takeRow, chosen, Msg, Outcome, refuse, ending, decode}
+use Rattle.messages.specs.Codec.{takeField, takeBody, takeRow, fitsFields, fitsRow, chosen, Msg, Outcome, ok, refuse, ending, decode}
 use Rattle.octets.specs.Places.{leftAt, bitsAt, behind, atBit}
 use Rattle.reader.specs.Reading.{TakesField, message, bodyAt, rowAt, onward, GoesOn}
 use Rattle.messages.specs.Columns.{formAt, countAt, tailAt, fieldsOf, tailOf, lastField, rowFrom}
 use Rattle.octets.specs.declared.Got.{Got}
 use Rattle.octets.specs.declared.Got.the-variants.{Value, No}
+use Rattle.reader.proofs.HeldLaws.{unlike}
+use Rattle.messages.proofs.NamedLaws.{read-fits}
 use Rattle.messages.proofs.ColumnLaws.{row-from, one-more, no-tail, count-few, count-one-more}
 
 ofPresence : ℕ → Read (ℕ × ℕ) → Outcome Msg
@@ -106,6 +108,24 @@ module _ (s : List ℕ) (at n : ℕ) where
 
     pub on-body : (v next : ℕ) → g ≡ Value v next → (bodyAt s next (countAt n + v) n ≡ rowAt s at n) × (next ≤ length s * 8) × (countAt n + v ≤ 4)
     on-body v next e = let p : GoesOn s at n (Value v next) = rw e at o in (p .same, p .inside, p .few)
+
+-- a message that nothing follows has no items
+items-none : (items : List ℕ) → eqb (length items) 0 ≡ true → items ≡ []
+items-none [] e = refl
+items-none (v ∷ vs) e = absurd (let z : suc (length vs) ≡ 0 = eqb-true (suc (length vs)) 0 e in omega arith)
+
+none-fit : (n : ℕ) (vs items : List ℕ) → tailAt n ≡ 0 → fitsRow (rowFrom n) vs items ≡ true → items ≡ []
+unfolding rowFrom tailOf
+none-fit n vs items z fits = go (eqb (formAt n) 0) (eqb (formAt n) 1) (eqb (formAt n) 2) (rw z at fits)
+  where
+    go : (a b c : Bool) → fitsRow (cond a (plain (fieldsOf n (countAt n)) nothing) (cond b (optional (fieldsOf n (countAt n)) (lastField n)) (cond c uncovered unknown))) vs items ≡ true → items ≡ []
+    go true b c e = items-none items (both-right (fitsFields (fieldsOf n (countAt n)) vs) (eqb (length items) 0) e)
+    go false true c e = items-none items (both-right (fitsFields (chosen (ltb (length (fieldsOf n (countAt n))) (length vs)) (fieldsOf n (countAt n)) (lastField n)) vs) (eqb (length items) 0) e)
+    go false false true e = absurd (unlike e)
+    go false false false e = absurd (unlike e)
+
+pub none-read : (s : List ℕ) → Bytes s → (m : Msg) → decode s ≡ ok m → tailAt (m .number) ≡ 0 → m .items ≡ []
+none-read s y m e z = none-fit (m .number) (m .values) (m .items) z (rw row-from at (read-fits s y m e))
 
 -- a whole message
 ofNumber : Read (ℕ × ℕ) → Outcome Msg

@@ -1,5 +1,7 @@
--- What `decode` answers: the message, with every cell that it does not use 0; or the refusal, with 0 everywhere else.
-use mathlib.Core.Bool.{Bool, true, false, cond}
+-- What `decode` answers: the message, with every cell that it does not use 0; or the refusal, with 0 everywhere else. And the same where the ids
+-- are stored in a list that is lent.
+use mathlib.Core.Path.{_≡_}
+use mathlib.Core.Bool.{Bool, true, false, cond, not}
 use mathlib.Core.List.{List, [], _++_}
 use Prim.Native.Nat.{ℕ, _-_}
 use lib.Dec.{eqb}
@@ -8,6 +10,7 @@ use Rattle.messages.specs.Limits.{list-limit}
 use Rattle.messages.specs.Columns.{tailAt}
 use Rattle.messages.specs.Codec.{Msg, Outcome, ok, refuse}
 use Rattle.reader.specs.declared.Decoded.{Decoded}
+use Rattle.reader.specs.declared.Head.{Head}
 
 -- some cells, those behind the last value 0
 abbrev pub padded : ℕ → List ℕ → List ℕ
@@ -45,3 +48,30 @@ decoded s (ok m) =
       ids = padded list-limit (cond (isString (m .number)) [] (m .items));
     }
 decoded s (refuse n) = noMessage n
+
+-- all but the ids
+unfoldable pub headOf : Decoded → Head
+headOf d =
+    record {
+      ok = d .ok;
+      refusal = d .refusal;
+      number = d .number;
+      have = d .have;
+      values = d .values;
+      count = d .count;
+      octets = d .octets;
+      start = d .start;
+    }
+
+-- whether what follows a message's fields is a list of ids: neither nothing nor a string
+abbrev pub hasIds : ℕ → Bool
+hasIds kind = cond (eqb kind 0) false (not (eqb kind 3))
+
+-- the list lent, behind a message: its ids, with 0 behind them, or what it held before
+unfoldable pub kept : Msg → List ℕ → List ℕ
+kept m before = cond (hasIds (tailAt (m .number))) (padded list-limit (m .items)) before
+
+-- a refusal may come behind some ids that are stored: nothing is said of the list then
+pub record Reads (s : List ℕ) (o : Outcome Msg) (before after : List ℕ) (r : Head) : Type 0 where
+  pub head : r ≡ headOf (decoded s o)
+  pub list : (m : Msg) → o ≡ ok m → after ≡ kept m before

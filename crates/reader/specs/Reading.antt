@@ -42,21 +42,21 @@ abbrev pub itemsOf : List ℕ → Bool → ℕ → ℕ → List ℕ → List ℕ
 itemsOf s true start count ids = take count (drop start s)
 itemsOf s false start count ids = take count ids
 
-abbrev pub atItems : List ℕ → Items → Bool → Read (List ℕ)
-atItems s r true = got (itemsOf s (r .octets) (r .start) (r .count) (r .ids)) (drop (r .next) s)
-atItems s r false = no (r .refusal)
+abbrev pub atItems : List ℕ → Items → List ℕ → Bool → Read (List ℕ)
+atItems s r after true = got (itemsOf s (r .octets) (r .start) (r .count) after) (drop (r .next) s)
+atItems s r after false = no (r .refusal)
 
--- a string ends where the next part starts; of ids, the cells behind the last are 0
-pub record Holds (s : List ℕ) (octets : Bool) (r : Items) : Type 0 where
+-- a string ends where the next part starts; ids are stored in the list lent, the cells behind the last 0, and else it is as before
+pub record Holds (s : List ℕ) (octets ids : Bool) (r : Items) (before after : List ℕ) : Type 0 where
   pub kind : r .octets ≡ octets
-  pub many : length (itemsOf s octets (r .start) (r .count) (r .ids)) ≡ r .count
+  pub many : length (itemsOf s octets (r .start) (r .count) after) ≡ r .count
   pub starts : r .start ≡ cond octets (r .next - r .count) 0
-  pub cells : r .ids ≡ padded list-limit (cond octets [] (take (r .count) (r .ids)))
+  pub cells : after ≡ cond ids (padded list-limit (itemsOf s octets (r .start) (r .count) after)) before
 
-pub record ReadsItems (s : List ℕ) (octets : Bool) (r : Items) (spec : Read (List ℕ)) : Type 0 where
-  pub same : atItems s r (r .ok) ≡ spec
+pub record ReadsItems (s : List ℕ) (octets ids : Bool) (r : Items) (before after : List ℕ) (spec : Read (List ℕ)) : Type 0 where
+  pub same : atItems s r after (r .ok) ≡ spec
   pub inside : r .next ≤ length s
-  pub holds : r .ok ≡ true → Holds s octets r
+  pub holds : r .ok ≡ true → Holds s octets ids r before after
 
 abbrev pub message : ℕ → List ℕ × List ℕ → Reader Msg
 message n r = give (record { number = n; values = r .0; items = r .1 })

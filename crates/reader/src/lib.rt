@@ -14,8 +14,9 @@ use octets::read_length;
 use octets::read_number;
 use octets::wide;
 ghost use mathlib.Core.Path.{_≡_};
-ghost use Prim.Native.Nat.{_+_, _*_, _-_, _<_, _≤_};
+ghost use Prim.Native.Nat.{ℕ, _+_, _*_, _-_, _<_, _≤_};
 ghost use mathlib.Core.Bool.{true, false};
+ghost use mathlib.Core.List.{List};
 ghost use lib.Dec.{eqb};
 ghost use lib.ListN.{length, drop};
 ghost use Rattle.octets.specs.Octets.{anId, aNumber, anOctet, readItems, readTail};
@@ -25,7 +26,7 @@ ghost use Rattle.messages.specs.Columns.{packedAt, fieldOf, fieldsOf, tailOf};
 ghost use Rattle.octets.specs.Bits.{takeBits, after};
 ghost use Rattle.octets.specs.Places.{leftAt, bitsAt, behind, Bitwise, cappedOf, inBits, EndsAt};
 ghost use Rattle.reader.specs.Reading.{TakesField, TakesFields, ReadsItems, listed, bodyAt, rowAt, GoesOn, decodeOf};
-ghost use Rattle.reader.specs.Held.{noMessage, decoded};
+ghost use Rattle.reader.specs.Held.{noMessage, decoded, headOf, hasIds, Reads};
 ghost use Rattle.reader.specs.Fields.{FieldAt};
 
 // The value of the bits left of an octet begun, at a bit.
@@ -178,7 +179,8 @@ fn take_fields(s: &[u8], from: usize, number: u32, line: u32, count: usize) -> F
     }
 }
 
-// What follows the fields: whether it is read, else the refusal; the octet behind it; ids, or octets from start on.
+// What follows the fields: whether it is read, else the refusal; the octet behind it; how many ids, which stand in the list lent, or octets
+// from start on.
 pub struct Items {
     pub ok: bool,
     pub refusal: u8,
@@ -186,14 +188,12 @@ pub struct Items {
     pub count: usize,
     pub octets: bool,
     pub start: usize,
-    pub ids: [u16; LIST_LIMIT],
 }
 
 // Nothing read, and why.
 fn no_items(n: u8) -> Items
     ensures { λ r. ⌜ (r .ok ≡ false) × (r .refusal ≡ n) × (r .next ≡ 0) ⌝ }
 {
-    let ids = [0u16; LIST_LIMIT];
     Items {
         ok: false,
         refusal: n,
@@ -201,16 +201,15 @@ fn no_items(n: u8) -> Items
         count: 0,
         octets: false,
         start: 0,
-        ids: ids,
     }
 }
 
-// Some ids.
-fn read_ids(s: &[u8], from: usize, low: u16, count: usize) -> Items
+// Some ids, stored; the cells behind the last are 0.
+fn read_ids(s: &[u8], from: usize, low: u16, count: usize, ids: &mut [u16; LIST_LIMIT]) -> Items
     requires { ⌜ (from ≤ length (now s)) × (count ≤ list-limit) ⌝ }
-    ensures { λ r. ⌜ ReadsItems (now (s .entry)) false r (readItems (anId low) count (drop from (now (s .entry)))) ⌝ }
+    ensures { λ r. ⌜ ReadsItems (now (s .entry)) false true r (now (ids .entry)) (now (ids .exit)) (readItems (anId low) count (drop from (now (s .entry)))) ⌝ }
 {
-    let mut ids = [0u16; LIST_LIMIT];
+    *ids = [0u16; LIST_LIMIT];
     let mut at = from;
     let mut i = 0;
     while i < count {
@@ -231,19 +230,17 @@ fn read_ids(s: &[u8], from: usize, low: u16, count: usize) -> Items
         count: count,
         octets: false,
         start: 0,
-        ids: ids,
     }
 }
 
 // Some octets, where they stand.
 fn read_octets(s: &[u8], from: usize, count: usize) -> Items
     requires { ⌜ (from ≤ length (now s)) × (count < 65536) × (length (now s) ≤ message-limit) ⌝ }
-    ensures { λ r. ⌜ ReadsItems (now (s .entry)) true r (readItems anOctet count (drop from (now (s .entry)))) ⌝ }
+    ensures { λ r. ⌜ ((ids : List ℕ) → ReadsItems (now (s .entry)) true false r ids ids (readItems anOctet count (drop from (now (s .entry))))) ⌝ }
 {
     if s.len() < from + count {
         return no_items(5);
     }
-    let ids = [0u16; LIST_LIMIT];
     Items {
         ok: true,
         refusal: 0,
@@ -251,14 +248,13 @@ fn read_octets(s: &[u8], from: usize, count: usize) -> Items
         count: count,
         octets: true,
         start: from,
-        ids: ids,
     }
 }
 
 // A list's items, of a kind of the table of messages, behind its length.
-fn read_list(s: &[u8], from: usize, kind: u8, n: u32) -> Items
+fn read_list(s: &[u8], from: usize, kind: u8, n: u32, ids: &mut [u16; LIST_LIMIT]) -> Items
     requires { ⌜ (from ≤ length (now s)) × (length (now s) ≤ message-limit) × (kind ≡ 0 → ⊥) ⌝ }
-    ensures { λ r. ⌜ ReadsItems (now (s .entry)) (eqb kind 3) r (listed kind n (drop from (now (s .entry)))) ⌝ }
+    ensures { λ r. ⌜ ReadsItems (now (s .entry)) (eqb kind 3) (hasIds kind) r (now (ids .entry)) (now (ids .exit)) (listed kind n (drop from (now (s .entry)))) ⌝ }
 {
     if kind == 3 {
         if STRING_LIMIT < n as usize {
@@ -270,19 +266,18 @@ fn read_list(s: &[u8], from: usize, kind: u8, n: u32) -> Items
         return no_items(8);
     }
     if kind == 1 {
-        read_ids(s, from, 0, n as usize)
+        read_ids(s, from, 0, n as usize, ids)
     } else {
-        read_ids(s, from, 1001, n as usize)
+        read_ids(s, from, 1001, n as usize, ids)
     }
 }
 
 // What follows the fields, by its kind in the table of messages.
-fn read_tail(s: &[u8], from: usize, kind: u8) -> Items
+fn read_tail(s: &[u8], from: usize, kind: u8, ids: &mut [u16; LIST_LIMIT]) -> Items
     requires { ⌜ (from ≤ length (now s)) × (length (now s) ≤ message-limit) ⌝ }
-    ensures { λ r. ⌜ ReadsItems (now (s .entry)) (eqb kind 3) r (readTail (tailOf kind) (drop from (now (s .entry)))) ⌝ }
+    ensures { λ r. ⌜ ReadsItems (now (s .entry)) (eqb kind 3) (hasIds kind) r (now (ids .entry)) (now (ids .exit)) (readTail (tailOf kind) (drop from (now (s .entry)))) ⌝ }
 {
     if kind == 0 {
-        let ids = [0u16; LIST_LIMIT];
         return Items {
             ok: true,
             refusal: 0,
@@ -290,13 +285,12 @@ fn read_tail(s: &[u8], from: usize, kind: u8) -> Items
             count: 0,
             octets: false,
             start: 0,
-            ids: ids,
         };
     }
     let g = read_length(s, from);
     match g {
         Got::No(n) => no_items(n),
-        Got::Value(n, at) => read_list(s, at, kind, n),
+        Got::Value(n, at) => read_list(s, at, kind, n, ids),
     }
 }
 
@@ -332,31 +326,66 @@ pub fn refused(n: u8) -> Decoded
     }
 }
 
+// What is said of a message beside the ids of its list; or a refusal.
+pub struct Head {
+    pub ok: bool,
+    pub refusal: u8,
+    pub number: u32,
+    pub have: usize,
+    pub values: [u32; 4],
+    pub count: usize,
+    pub octets: bool,
+    pub start: usize,
+}
+
+// The same of no message.
+fn no_head(n: u8) -> Head
+    ensures { λ r. ⌜ r ≡ headOf (noMessage n) ⌝ }
+{
+    let values = [0u32; 4];
+    Head {
+        ok: false,
+        refusal: n,
+        number: 0,
+        have: 0,
+        values: values,
+        count: 0,
+        octets: false,
+        start: 0,
+    }
+}
+
 // The fields of a message, from the bit at on, and what follows them, to its end.
-fn decode_body(s: &[u8], at: usize, count: usize, number: u32, line: u32) -> Decoded
+fn decode_body(
+    s: &[u8],
+    at: usize,
+    count: usize,
+    number: u32,
+    line: u32,
+    ids: &mut [u16; LIST_LIMIT],
+) -> Head
     requires { ⌜ (at ≤ length (now s) * 8) × (length (now s) ≤ message-limit) × (count ≤ 4) × (line ≡ packedAt number) ⌝ }
-    ensures { λ r. ⌜ r ≡ decoded (now (s .entry)) (bodyAt (now (s .entry)) at count number) ⌝ }
+    ensures { λ r. ⌜ Reads (now (s .entry)) (bodyAt (now (s .entry)) at count number) (now (ids .entry)) (now (ids .exit)) r ⌝ }
 {
     let f = take_fields(s, at, number, line, count);
     if !f.ok {
-        return refused(f.refusal);
+        return no_head(f.refusal);
     }
     let end = f.at;
     if bits_at(s, end) != 0 {
-        return refused(5);
+        return no_head(5);
     }
     let i = (end + 7) / 8;
     let kind = tail_in(line);
-    let t = read_tail(s, i, kind);
+    let t = read_tail(s, i, kind, ids);
     if !t.ok {
-        return refused(t.refusal);
+        return no_head(t.refusal);
     }
     if t.next != s.len() {
-        return refused(5);
+        return no_head(5);
     }
     let values = f.values;
-    let ids = t.ids;
-    Decoded {
+    Head {
         ok: true,
         refusal: 0,
         number: number,
@@ -365,7 +394,6 @@ fn decode_body(s: &[u8], at: usize, count: usize, number: u32, line: u32) -> Dec
         count: t.count,
         octets: t.octets,
         start: t.start,
-        ids: ids,
     }
 }
 
@@ -388,16 +416,33 @@ fn presence(s: &[u8], at: usize, number: u32, line: u32) -> Got
 }
 
 // A message, by its number.
-fn decode_row(s: &[u8], at: usize, number: u32) -> Decoded
+fn decode_row(s: &[u8], at: usize, number: u32, ids: &mut [u16; LIST_LIMIT]) -> Head
     requires { ⌜ (at ≤ length (now s) * 8) × (length (now s) ≤ message-limit) × (leftAt at ≡ 2) ⌝ }
-    ensures { λ r. ⌜ r ≡ decoded (now (s .entry)) (rowAt (now (s .entry)) at number) ⌝ }
+    ensures { λ r. ⌜ Reads (now (s .entry)) (rowAt (now (s .entry)) at number) (now (ids .entry)) (now (ids .exit)) r ⌝ }
 {
     let line = entry_of(number);
     let count = count_in(line);
     let g = presence(s, at, number, line);
     match g {
-        Got::No(n) => refused(n),
-        Got::Value(more, next) => decode_body(s, next, count + more as usize, number, line),
+        Got::No(n) => no_head(n),
+        Got::Value(more, next) => decode_body(s, next, count + more as usize, number, line, ids),
+    }
+}
+
+// The message of these octets; where it has a list of ids, they are stored in the list lent.
+pub fn read_into(s: &[u8], ids: &mut [u16; LIST_LIMIT]) -> Head
+    ensures { λ r. ⌜ Reads (now (s .entry)) (decodeOf (now (s .entry))) (now (ids .entry)) (now (ids .exit)) r ⌝ }
+{
+    if s.len() == 0 {
+        return no_head(4);
+    }
+    if MESSAGE_LIMIT < s.len() {
+        return no_head(4);
+    }
+    let g = take_code(s, 0, 6, 63);
+    match g {
+        Got::No(n) => no_head(n),
+        Got::Value(v, at) => decode_row(s, at, v, ids),
     }
 }
 
@@ -405,16 +450,22 @@ fn decode_row(s: &[u8], at: usize, number: u32) -> Decoded
 pub fn decode(s: &[u8]) -> Decoded
     ensures { λ r. ⌜ r ≡ decoded (now (s .entry)) (decodeOf (now (s .entry))) ⌝ }
 {
-    if s.len() == 0 {
-        return refused(4);
+    let mut ids = [0u16; LIST_LIMIT];
+    let h = read_into(s, &mut ids);
+    if !h.ok {
+        return refused(h.refusal);
     }
-    if MESSAGE_LIMIT < s.len() {
-        return refused(4);
-    }
-    let g = take_code(s, 0, 6, 63);
-    match g {
-        Got::No(n) => refused(n),
-        Got::Value(v, at) => decode_row(s, at, v),
+    let values = h.values;
+    Decoded {
+        ok: true,
+        refusal: 0,
+        number: h.number,
+        have: h.have,
+        values: values,
+        count: h.count,
+        octets: h.octets,
+        start: h.start,
+        ids: ids,
     }
 }
 

@@ -1,6 +1,6 @@
 use mathlib.Core.Path.{_∙_}
 use Rattle.messages.proofs.ColumnLaws.{count-at}
-use Rattle.reader.proofs.HeldLaws.{refused-is, decoded-as}
+use Rattle.reader.proofs.HeldLaws.{refused-is, reads-as}
 use Rattle.reader.proofs.RowLaws.{on-no, on-body}
 use borrow.Author.Needs.{needs}
 use Rattle.reader.proofs.decode_row.Statement.{statement}
@@ -18,8 +18,8 @@ presence-requires c κs = search needs
 enum-known-g : tie.Need-enum-known-g
 enum-known-g c = search needs
 
-refused-requires : tie.Need-refused-requires
-refused-requires c κs = search needs
+no-head-requires : tie.Need-no-head-requires
+no-head-requires c κs = search needs
 
 enum-known-g-2 : tie.Need-enum-known-g-2
 enum-known-g-2 c = search needs
@@ -31,13 +31,13 @@ add-decode-body : tie.Need-add-decode-body
 add-decode-body c = search needs
 
 decode-body-requires : tie.Need-decode-body-requires
-decode-body-requires c κs = let b = on-body _ _ _ _ (c .before .before .before .presence .ensures) _ _ (c .before .g2 .given .1) in (b .1, search needs, rw (c .before .before .before .before .count-in .ensures ∙ count-at _ _ (c .before .before .before .before .before .entry-of .ensures)) (b .2), c .before .before .before .before .before .entry-of .ensures)
+decode-body-requires c κs = let b = on-body _ _ _ _ (c .before .before .before .before .presence .ensures) _ _ (c .before .before .g2 .given .1) in (b .1, search needs, rw (c .before .before .before .before .before .count-in .ensures ∙ count-at _ _ (c .before .before .before .before .before .before .entry-of .ensures)) (b .2), c .before .before .before .before .before .before .entry-of .ensures)
 
 returns : tie.Need-returns
-returns c = refused-is _ _ _ _ (c .refused .ensures) (on-no _ _ _ _ (c .before .before .before .before .presence .ensures) _ (c .before .before .g .given .1))
+returns c = refused-is _ _ _ _ (c .no-head .ensures) (on-no _ _ _ _ (c .before .before .before .before .presence .ensures) _ (c .before .before .g .given .1))
 
 returns-2 : tie.Need-returns-2
-returns-2 c = decoded-as _ _ _ (c .decode-body .ensures) (rw (c .before .before .before .before .before .count-in .ensures ∙ count-at _ _ (c .before .before .before .before .before .before .entry-of .ensures)) (on-body _ _ _ _ (c .before .before .before .before .presence .ensures) _ _ (c .before .before .g2 .given .1) .0))
+returns-2 c = reads-as _ _ _ (c .decode-body .ensures) (rw (c .before .before .before .before .before .before .count-in .ensures ∙ count-at _ _ (c .before .before .before .before .before .before .before .entry-of .ensures)) (on-body _ _ _ _ (c .before .before .before .before .before .presence .ensures) _ _ (c .before .before .before .g2 .given .1) .0))
 
 pub decode-row-spec : {M : Type 1} → statement M
 decode-row-spec =
@@ -47,7 +47,7 @@ decode-row-spec =
     count-in-requires
     presence-requires
     enum-known-g
-    refused-requires
+    no-head-requires
     enum-known-g-2
     cast-decode-body
     add-decode-body

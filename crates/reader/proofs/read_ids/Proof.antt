@@ -24,7 +24,7 @@ no-items-requires : tie.Need-no-items-requires Inv-loop μ-loop
 no-items-requires c κs = search needs
 
 returns : tie.Need-returns Inv-loop μ-loop
-returns c = items-no _ _ _ _ _ (c .no-items .ensures) (sofar-no (c .before .before .before .before .before .before .loop .inv) (c .before .before .before .before .before .loop-test .taken) _ _ (c .before .before .g .given .1) (c .before .before .before .before .read-id .ensures))
+returns c = items-no _ _ _ _ _ _ (c .no-items .ensures) (sofar-no (c .before .before .before .before .before .before .loop .inv) (c .before .before .before .before .before .loop-test .taken) _ _ (c .before .before .g .given .1) (c .before .before .before .before .read-id .ensures))
 
 enum-known-g-2 : tie.Need-enum-known-g-2 Inv-loop μ-loop
 enum-known-g-2 c = search needs
@@ -35,8 +35,8 @@ cast-ids c = search needs
 mul-ids : tie.Need-mul-ids Inv-loop μ-loop
 mul-ids c = search needs
 
-array-write-ids : tie.Need-array-write-ids Inv-loop μ-loop
-array-write-ids c = search needs
+element-write-ids : tie.Need-element-write-ids Inv-loop μ-loop
+element-write-ids c = search needs
 
 add-i : tie.Need-add-i Inv-loop μ-loop
 add-i c = search needs
@@ -64,7 +64,7 @@ read-ids-spec =
     enum-known-g-2
     cast-ids
     mul-ids
-    array-write-ids
+    element-write-ids
     add-i
     loop-less
     loop-again

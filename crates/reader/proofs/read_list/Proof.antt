@@ -13,7 +13,7 @@ read-octets-requires : tie.Need-read-octets-requires
 read-octets-requires c κs = search needs
 
 returns-2 : tie.Need-returns-2
-returns-2 c = search (needs, list-octets)
+returns-2 c = list-octets _ (c .before .before .before .before .args .from) _ _ _ _ _ (c .before .before .if1 .taken) (search needs) (c .read-octets .ensures _)
 
 no-items-requires-2 : tie.Need-no-items-requires-2
 no-items-requires-2 c κs = search needs

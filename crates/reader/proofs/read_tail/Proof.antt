@@ -1,4 +1,3 @@
-use mathlib.Core.Path.{refl}
 use borrow.Author.Needs.{needs}
 use Rattle.reader.proofs.ListLaws.{tail-none, tail-no, tail-is}
 use Rattle.octets.proofs.Reading.{ends-value}
@@ -6,7 +5,7 @@ use Rattle.reader.proofs.read_tail.Statement.{statement}
 use Rattle.reader.proofs.read_tail.Tie as tie
 
 returns : tie.Need-returns
-returns c = tail-none _ _ _ _ refl (c .if1 .taken) (search needs)
+returns c = tail-none _ _ _ _ (c .if1 .taken) (search needs)
 
 read-length-requires : tie.Need-read-length-requires
 read-length-requires c κs = search needs
@@ -21,13 +20,13 @@ enum-known-g-2 : tie.Need-enum-known-g-2
 enum-known-g-2 c = search needs
 
 read-list-requires : tie.Need-read-list-requires
-read-list-requires c κs = (ends-value _ _ _ _ (c .before .g2 .given .1) (c .before .before .before .read-length .ensures .inside), search needs, search needs)
+read-list-requires c κs = (ends-value _ _ _ _ (c .before .before .g2 .given .1) (c .before .before .before .before .read-length .ensures .inside), search needs, search needs)
 
 returns-2 : tie.Need-returns-2
-returns-2 c = tail-no _ (c .before .before .before .before .before .before .before .args .from) _ (search needs) _ _ (c .before .before .before .before .read-length .ensures) _ (c .before .before .g .given .1) (c .no-items .ensures)
+returns-2 c = tail-no _ (c .before .before .before .before .before .before .before .args .from) _ (search needs) _ _ _ _ (c .before .before .before .before .read-length .ensures) _ (c .before .before .g .given .1) (c .no-items .ensures)
 
 returns-3 : tie.Need-returns-3
-returns-3 c = tail-is _ (c .before .before .before .before .before .before .before .args .from) _ (search needs) _ _ (c .before .before .before .before .read-length .ensures) _ _ (c .before .before .g2 .given .1) (c .read-list .ensures)
+returns-3 c = tail-is _ (c .before .before .before .before .before .before .before .before .args .from) _ (search needs) _ _ _ _ (c .before .before .before .before .before .read-length .ensures) _ _ (c .before .before .before .g2 .given .1) (c .read-list .ensures)
 
 pub read-tail-spec : {M : Type 1} → statement M
 read-tail-spec =
