@@ -215,7 +215,7 @@ pub fn detach(
     )
 }
 
-// DPum, RJum and loss: p closes.
+// DPum, RJum and loss: p closes. Who leaves is listed in a list that is lent: its caller has one anyway.
 pub fn close(
     links: &mut u16,
     names: &mut [u16; 64],
@@ -229,6 +229,7 @@ pub fn close(
     modes: &mut [u8; 64],
     values: &mut [u64; 64],
     p: u8,
+    list: &mut [u16; 64],
     out: &mut [u8],
 ) -> Answer
     ensures { λ r. ⌜ ((l : Limits) → answered r (domain-of l (now (links .exit)) (now (names .exit)) (now (homes .exit)) (now (ids .exit)) (now (roles .exit))
@@ -239,8 +240,7 @@ pub fn close(
         (now (chairs .entry)) (now (guests .entry)) (now (marks .entry)) (now (keys .entry)) (now (modes .entry)) (now (values .entry))) p) (now (out .entry))) ⌝ }
 {
     let reason = states::numbers::reason_number(Reason::DomainDisconnected);
-    let mut list = [0u16; 64];
-    let n = leavers::all_on(names, homes, p, &mut list);
+    let n = leavers::all_on(names, homes, p, list);
     let live = places::masks::without_link(*links, p);
     leave(
         links,
@@ -256,7 +256,7 @@ pub fn close(
         values,
         live,
         reason,
-        &list,
+        list,
         n,
         out,
     )

@@ -39,6 +39,7 @@ pub fn lose(
             sent: 0,
         };
     }
+    let mut list = [0u16; 64];
     leaving::close(
         links,
         names,
@@ -52,6 +53,7 @@ pub fn lose(
         modes,
         values,
         p,
+        &mut list,
         out,
     )
 }
@@ -110,7 +112,7 @@ pub fn message(
         u.first,
         u.second,
         u.third,
-        &listed,
+        &mut listed,
         u.count,
         out,
     )

@@ -9,7 +9,7 @@ use domain::Limits;
 use domain::answer::Answer;
 use domain::numbers::Reply;
 
-// Every served message: tokens, private channels, then the others by their numbers. DPum and RJum close.
+// Every served message: tokens, private channels, then the others by their numbers. DPum and RJum close; the list lent is then worked in.
 pub fn request(
     limits: Limits,
     links: &mut u16,
@@ -28,7 +28,7 @@ pub fn request(
     first: u16,
     second: u16,
     third: u16,
-    listed: &[u16; 64],
+    listed: &mut [u16; 64],
     count: usize,
     out: &mut [u8],
 ) -> Answer
@@ -150,6 +150,7 @@ pub fn request(
             modes,
             values,
             p,
+            listed,
             out,
         ),
     }

@@ -13,7 +13,7 @@ use Rattle.places.specs.Places.{Place, At, Nowhere, find, found, number}
 use Rattle.places.specs.Swept.{anywhere}
 use Rattle.places.proofs.Marks.{meet-none}
 use Rattle.places.proofs.Rows.{find-holds}
-use Rattle.places.proofs.Answers.{seen-found, unseen}
+use Rattle.places.proofs.Answers.{find-at, find-nowhere}
 use Rattle.places.proofs.Sweeps.{Sweeps, sweeps-start}
 use Rattle.domain.specs.declared.channel.Kind.the-variants.{Static, User, Private, Assigned}
 use Rattle.domain.specs.declared.channel.Channel.{Channel}
@@ -59,11 +59,12 @@ module _ (us : Users) (sized : length (us .ids) ≡ 64) (list : List ℕ) (c : �
   user-unlisted m = sym (gone-listed ∙ rw m refl)
 
   pub user-listed : (n r : ℕ) → n ≡ 64 → member c list ≡ true → r ≡ number (length (us .ids)) (find (us .ids) c) → ltb r n ≡ gone-at (places us list) (find (us .ids) c)
+  unfolding found
   user-listed n r k m e = go (ltb r n) refl ∙ sym (gone-listed ∙ rw m refl)
     where
       go : (b : Bool) → ltb r n ≡ b → b ≡ found (find (us .ids) c)
-      go true q = sym (seen-found (us .ids) c r e (omega (arith, ltb-true r n q)))
-      go false q = sym (unseen (us .ids) c r e (omega (arith, ltb-false r n q)))
+      go true q = sym (ap found (find-at (us .ids) c r e (omega (arith, ltb-true r n q))))
+      go false q = sym (ap found (find-nowhere (us .ids) c r e (omega (arith, ltb-false r n q))))
 
 -- ---- the fate by the channel's kind
 module _ (us : Users) (gone live c : ℕ) (ch : Channel) (m : ℕ) (e : m ≡ meet links (ch .marks) live) where
