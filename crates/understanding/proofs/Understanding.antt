@@ -1,5 +1,5 @@
 -- What is understood of octets, test by test, and that a request as the code holds it asks for what the message does. Assumes nothing.
-use mathlib.Core.Path.{_≡_, refl, sym, ap, ap₂, _∙_}
+use mathlib.Core.Path.{_≡_, refl, sym, ap, ap₂, _∙_, subst}
 use mathlib.Core.Bool.{Bool, true, false, not, cond, _&&_, _||_}
 use mathlib.Core.List.{List, [], _∷_, _++_}
 use Prim.Native.Nat.{ℕ, _-_, _/_, _%_, _≤_, _<_}
@@ -20,8 +20,9 @@ use Rattle.messages.specs.Named.{fields, formed, heard}
 use Rattle.messages.proofs.CodecLaws.{taken}
 use Rattle.messages.proofs.NamedLaws.{ranges, read-named, heard-formed, refused-heard}
 use Rattle.messages.proofs.Refusals.{refusal, refusals, number-read}
-use Rattle.reader.specs.Held.{padded, isString, noMessage, decoded}
+use Rattle.reader.specs.Held.{padded, noMessage, decoded, headOf, hasIds, kept, Reads}
 use Rattle.reader.specs.declared.Decoded.{Decoded}
+use Rattle.reader.specs.declared.Head.{Head}
 use Rattle.brief.specs.declared.Short.{Short}
 use Rattle.brief.specs.Shortly.{in-full, Shortly}
 use Rattle.brief.specs.declared.lists.Listing.{Listing}
@@ -116,56 +117,58 @@ first-listed xs = take-at xs (replicate (64 - length xs) 0) (length xs) refl
 value-of : Message → ℕ → ℕ
 value-of m i = getD (padded 4 (fields m .values)) i 0 % 65536
 
-list-of : Message → List ℕ
-list-of m = take (length (fields m .items)) (padded 64 (cond (isString (fields m .number)) [] (fields m .items)))
+request-of : Message → List ℕ → Message
+request-of m ids = request (fields m .number) (value-of m 0) (value-of m 1) (value-of m 2) ids
 
-request-of : Message → Message
-request-of m = request (fields m .number) (value-of m 0) (value-of m 1) (value-of m 2) (list-of m)
+-- some ids are those of a message, where it has a list of them
+ItsIds : Msg → List ℕ → Type 0
+ItsIds m ids = hasIds (tailAt (m .number)) ≡ true → ids ≡ m .items
 
-request-act : (new : ℕ) (d : Domain) (p : ℕ) (m : Message) → formed m ≡ true → is-served (fields m .number) ≡ true → act new d p (request-of m) ≡ act new d p m
-unfolding request-of value-of list-of request token-request pass-request private-request user-request fields is-served entry tailAt packedAt packed act
-request-act new d p (EDrq h i) f s = refl
-request-act new d p (DPum n) f s = refl
-request-act new d p (RJum n os) f s = refl
-request-act new d p AUrq f s = refl
-request-act new d p (AUcf n u) f s = absurd (unlike s)
-request-act new d p (DUrq n us) f s =
+request-act : (new : ℕ) (d : Domain) (p : ℕ) (ids : List ℕ) (m : Message) → ItsIds (fields m) ids → formed m ≡ true → is-served (fields m .number) ≡ true
+    → act new d p (request-of m ids) ≡ act new d p m
+unfolding request-of ItsIds value-of request token-request pass-request private-request user-request fields is-served entry tailAt packedAt packed act
+request-act new d p ids (EDrq h i) l f s = refl
+request-act new d p ids (DPum n) l f s = refl
+request-act new d p ids (RJum n os) l f s = refl
+request-act new d p ids AUrq l f s = refl
+request-act new d p ids (AUcf n u) l f s = absurd (unlike s)
+request-act new d p ids (DUrq n us) l f s =
     let r = ranges (DUrq n us) f in
     let z : n % 65536 % 8 ≡ n = omega (arith, r .0 .most) in
-    ap₂ (λ (a : ℕ) (l : List ℕ). act new d p (DUrq a l)) z (first-listed us)
-request-act new d p (DUin n us) f s = absurd (unlike s)
-request-act new d p (CJrq u c) f s = let r = ranges (CJrq u c) f in ap (act new d p) (two u c (r .0 .most) (r .1 .most) CJrq)
-request-act new d p (CJcf n u a c) f s = absurd (unlike s)
-request-act new d p (CLrq cs) f s = ap (λ (l : List ℕ). act new d p (CLrq l)) (first-listed cs)
-request-act new d p (CCrq u) f s = let r = ranges (CCrq u) f in ap (λ (a : ℕ). act new d p (CCrq a)) (small u (r .most))
-request-act new d p (CCcf n u c) f s = absurd (unlike s)
-request-act new d p (CDrq u c) f s = let r = ranges (CDrq u c) f in ap (act new d p) (two u c (r .0 .most) (r .1 .most) CDrq)
-request-act new d p (CDin c) f s = absurd (unlike s)
-request-act new d p (CArq u c us) f s =
+    ap₂ (λ (a : ℕ) (l : List ℕ). act new d p (DUrq a l)) z (l refl)
+request-act new d p ids (DUin n us) l f s = absurd (unlike s)
+request-act new d p ids (CJrq u c) l f s = let r = ranges (CJrq u c) f in ap (act new d p) (two u c (r .0 .most) (r .1 .most) CJrq)
+request-act new d p ids (CJcf n u a c) l f s = absurd (unlike s)
+request-act new d p ids (CLrq cs) l f s = ap (λ (l : List ℕ). act new d p (CLrq l)) (l refl)
+request-act new d p ids (CCrq u) l f s = let r = ranges (CCrq u) f in ap (λ (a : ℕ). act new d p (CCrq a)) (small u (r .most))
+request-act new d p ids (CCcf n u c) l f s = absurd (unlike s)
+request-act new d p ids (CDrq u c) l f s = let r = ranges (CDrq u c) f in ap (act new d p) (two u c (r .0 .most) (r .1 .most) CDrq)
+request-act new d p ids (CDin c) l f s = absurd (unlike s)
+request-act new d p ids (CArq u c us) l f s =
     let r = ranges (CArq u c us) f in
-    ap (act new d p) (two-list u c (r .0 .most) (r .1 .most) CArq _ us (first-listed us))
-request-act new d p (CAin u c us) f s = absurd (unlike s)
-request-act new d p (CErq u c us) f s =
+    ap (act new d p) (two-list u c (r .0 .most) (r .1 .most) CArq ids us (l refl))
+request-act new d p ids (CAin u c us) l f s = absurd (unlike s)
+request-act new d p ids (CErq u c us) l f s =
     let r = ranges (CErq u c us) f in
-    ap (act new d p) (two-list u c (r .0 .most) (r .1 .most) CErq _ us (first-listed us))
-request-act new d p (CEin c us) f s = absurd (unlike s)
-request-act new d p (TGrq u k) f s = let r = ranges (TGrq u k) f in ap (act new d p) (two u k (r .0 .most) (r .1 .most) TGrq)
-request-act new d p (TGcf n u k t) f s = absurd (unlike s)
-request-act new d p (TIrq u k) f s = let r = ranges (TIrq u k) f in ap (act new d p) (two u k (r .0 .most) (r .1 .most) TIrq)
-request-act new d p (TIcf n u k t) f s = absurd (unlike s)
-request-act new d p (TVrq u k v) f s = let r = ranges (TVrq u k v) f in ap (act new d p) (three u k (r .0 .most) (r .1 .most) TVrq v (r .2 .most))
-request-act new d p (TVin u k v) f s = absurd (unlike s)
-request-act new d p (TVrs n v k) f s =
+    ap (act new d p) (two-list u c (r .0 .most) (r .1 .most) CErq ids us (l refl))
+request-act new d p ids (CEin c us) l f s = absurd (unlike s)
+request-act new d p ids (TGrq u k) l f s = let r = ranges (TGrq u k) f in ap (act new d p) (two u k (r .0 .most) (r .1 .most) TGrq)
+request-act new d p ids (TGcf n u k t) l f s = absurd (unlike s)
+request-act new d p ids (TIrq u k) l f s = let r = ranges (TIrq u k) f in ap (act new d p) (two u k (r .0 .most) (r .1 .most) TIrq)
+request-act new d p ids (TIcf n u k t) l f s = absurd (unlike s)
+request-act new d p ids (TVrq u k v) l f s = let r = ranges (TVrq u k v) f in ap (act new d p) (three u k (r .0 .most) (r .1 .most) TVrq v (r .2 .most))
+request-act new d p ids (TVin u k v) l f s = absurd (unlike s)
+request-act new d p ids (TVrs n v k) l f s =
     let r = ranges (TVrs n v k) f in
     let z : n % 65536 % 16 ≡ n = omega (arith, r .0 .most) in
     ap (act new d p) (ap (λ (a : ℕ). TVrs a (v % 65536) (k % 65536)) z ∙ two v k (r .1 .most) (r .2 .most) (TVrs n))
-request-act new d p (TVcf n u k t) f s = absurd (unlike s)
-request-act new d p (TPrq u k) f s = let r = ranges (TPrq u k) f in ap (act new d p) (two u k (r .0 .most) (r .1 .most) TPrq)
-request-act new d p (TPin u k) f s = absurd (unlike s)
-request-act new d p (TRrq u k) f s = let r = ranges (TRrq u k) f in ap (act new d p) (two u k (r .0 .most) (r .1 .most) TRrq)
-request-act new d p (TRcf n u k t) f s = absurd (unlike s)
-request-act new d p (TTrq u k) f s = let r = ranges (TTrq u k) f in ap (act new d p) (two u k (r .0 .most) (r .1 .most) TTrq)
-request-act new d p (TTcf u k t) f s = absurd (unlike s)
+request-act new d p ids (TVcf n u k t) l f s = absurd (unlike s)
+request-act new d p ids (TPrq u k) l f s = let r = ranges (TPrq u k) f in ap (act new d p) (two u k (r .0 .most) (r .1 .most) TPrq)
+request-act new d p ids (TPin u k) l f s = absurd (unlike s)
+request-act new d p ids (TRrq u k) l f s = let r = ranges (TRrq u k) f in ap (act new d p) (two u k (r .0 .most) (r .1 .most) TRrq)
+request-act new d p ids (TRcf n u k t) l f s = absurd (unlike s)
+request-act new d p ids (TTrq u k) l f s = let r = ranges (TTrq u k) f in ap (act new d p) (two u k (r .0 .most) (r .1 .most) TTrq)
+request-act new d p ids (TTcf u k t) l f s = absurd (unlike s)
 
 -- ---- what is read
 number-is : (os : List ℕ) (x : Msg) → decode os ≡ ok x → x .number ≡ number-in os
@@ -173,21 +176,43 @@ unfolding number-in decode
 number-is [] x e = absurd (let z : _≡_ {A = ℕ} 0 1 = cc in omega arith)
 number-is (o ∷ os) x e = number-read o os x e
 
--- the ids that the code lists are those of the message read
-unfoldable pub Lists : Decoded → List ℕ → Type 0
-Lists dec listed = take (dec .count) listed ≡ take (dec .count) (dec .ids)
+-- the ids that the code lists are those of the message read, where it has some
+Lists : Decoded → List ℕ → Type 0
+Lists dec listed = hasIds (tailAt (dec .number)) ≡ true → take (dec .count) listed ≡ take (dec .count) (dec .ids)
 
-module _ (os : List ℕ) (dec : Decoded) (u : Understood) (a : Asked dec u) (listed : List ℕ) (l : Lists dec listed) where
-  requested-is : (m : Message) → dec ≡ decoded os (ok (fields m)) → requested u listed ≡ request-of m
-  unfolding requested request-of value-of list-of decoded Lists
-  requested-is m e = rw (a .number-is, a .first-is, a .second-is, a .third-is, a .count-is, l, e) refl
+no-string : (kind : ℕ) → hasIds kind ≡ true → eqb kind 3 ≡ false
+no-string kind h = go (eqb kind 0) (eqb kind 3) h
+  where
+    go : (a b : Bool) → cond a false (not b) ≡ true → b ≡ false
+    go a false e = refl
+    go true true e = absurd (unlike e)
+    go false true e = absurd (unlike e)
+
+module _ (os : List ℕ) (x : Msg) (listed : List ℕ) where
+  decoded-ids : hasIds (tailAt (x .number)) ≡ true → decoded os (ok x) .ids ≡ padded 64 (x .items)
+  unfolding decoded
+  decoded-ids h = ap (λ (b : Bool). padded 64 (cond b [] (x .items))) (no-string (tailAt (x .number)) h)
+
+  its-ids : Lists (decoded os (ok x)) listed → ItsIds x (take (length (x .items)) listed)
+  unfolding Lists ItsIds decoded
+  its-ids l h = l h ∙ ap (take (length (x .items))) (decoded-ids h) ∙ first-listed (x .items)
+
+  kept-lists : (before : List ℕ) → listed ≡ kept x before → Lists (decoded os (ok x)) listed
+  unfolding Lists decoded kept
+  kept-lists before e h = ap (take (length (x .items))) (e ∙ rw h (sym (decoded-ids h)))
+
+module _ (os : List ℕ) (dec : Decoded) (u : Understood) (a : Asked (headOf dec) u) (listed : List ℕ) (l : Lists dec listed) where
+  requested-is : (m : Message) → dec ≡ decoded os (ok (fields m)) → requested u listed ≡ request-of m (take (length (fields m .items)) listed)
+  unfolding requested request-of value-of decoded headOf
+  requested-is m e = rw (a .number-is, a .first-is, a .second-is, a .third-is, a .count-is, e) refl
 
   served-asks : (m : Message) → dec ≡ decoded os (ok (fields m)) → formed m ≡ true → is-served (fields m .number) ≡ true → understood os ≡ reads m → Understands os u listed
   unfolding answers asks
   served-asks m e f s i new d p room =
-      rw (i, a .done) (ap (λ (x : Effect Domain). ends d room x) (sym (ap (act new d p) (requested-is m e) ∙ request-act new d p m f s)))
+      let same = its-ids os (fields m) listed (subst (λ (x : Decoded). Lists x listed) e l) in
+      rw (i, a .done) (ap (λ (x : Effect Domain). ends d room x) (sym (ap (act new d p) (requested-is m e) ∙ request-act new d p _ m same f s)))
 
-  pub asked-asks : dec ≡ decoded os (decode os) → understood os ≡ read-as os (heard os) → Bytes os → dec .ok ≡ true → is-served (number-in os) ≡ true → Understands os u listed
+  asked-asks : dec ≡ decoded os (decode os) → understood os ≡ read-as os (heard os) → Bytes os → dec .ok ≡ true → is-served (number-in os) ≡ true → Understands os u listed
   unfolding decoded noMessage read-as
   asked-asks e i y k s = go (decode os) refl
     where
@@ -197,16 +222,30 @@ module _ (os : List ℕ) (dec : Decoded) (u : Understood) (a : Asked dec u) (lis
           (ap is-served (ap (λ (z : Msg). z .number) same ∙ number-is os x f) ∙ s) (i ∙ ap (read-as os) is)
       go (refuse n) f = absurd (unlike (sym (ap (λ (z : Decoded). z .ok) (e ∙ ap (decoded os) f)) ∙ k))
 
-pub codec-asks : (os : List ℕ) (dec : Decoded) → dec ≡ decoded os (decode os) → (u : Understood) (listed : List ℕ) → understood os ≡ read-as os (heard os)
-    → dec .ok ≡ false → replyNumber (u .reply) ≡ reply-for (dec .refusal) → Understands os u listed
-unfolding decoded noMessage read-as
-codec-asks os dec e u listed i k r = go (decode os) refl
-  where
-    go : (o : Outcome Msg) → decode os ≡ o → Understands os u listed
-    go (ok x) f = absurd (unlike (sym k ∙ ap (λ (z : Decoded). z .ok) (e ∙ ap (decoded os) f)))
-    go (refuse n) f =
-        let z : dec .refusal ≡ n = ap (λ (z : Decoded). z .refusal) (e ∙ ap (decoded os) f) in
-        refuses-asks os n u listed (i ∙ ap (read-as os) (refused-heard os n f)) (r ∙ ap reply-for z ∙ reply-for-is n (refusals os n f)) (refusal-some n (refusals os n f))
+-- the long way
+module _ (os : List ℕ) (h : Head) (before listed : List ℕ) (w : Reads os (decode os) before listed h) (u : Understood) (i : understood os ≡ read-as os (heard os)) where
+  head-is : (o : Outcome Msg) → decode os ≡ o → h ≡ headOf (decoded os o)
+  head-is o f = w .head ∙ ap (λ (o : Outcome Msg). headOf (decoded os o)) f
+
+  pub head-asks : Asked h u → Bytes os → h .ok ≡ true → is-served (number-in os) ≡ true → Understands os u listed
+  unfolding decoded noMessage headOf
+  head-asks a y k s = go (decode os) refl
+    where
+      go : (o : Outcome Msg) → decode os ≡ o → Understands os u listed
+      go (ok x) f =
+          asked-asks os (decoded os (ok x)) u (subst (λ (z : Head). Asked z u) (head-is (ok x) f) a) listed
+          (kept-lists os x listed before (w .list x f)) (ap (decoded os) (sym f)) i y refl s
+      go (refuse n) f = absurd (unlike (sym (ap (λ (z : Head). z .ok) (head-is (refuse n) f)) ∙ k))
+
+  pub codec-asks : h .ok ≡ false → replyNumber (u .reply) ≡ reply-for (h .refusal) → Understands os u listed
+  unfolding decoded noMessage headOf read-as
+  codec-asks k r = go (decode os) refl
+    where
+      go : (o : Outcome Msg) → decode os ≡ o → Understands os u listed
+      go (ok x) f = absurd (unlike (sym k ∙ ap (λ (z : Head). z .ok) (head-is (ok x) f)))
+      go (refuse n) f =
+          let z : h .refusal ≡ n = ap (λ (z : Head). z .refusal) (head-is (refuse n) f) in
+          refuses-asks os n u listed (i ∙ ap (read-as os) (refused-heard os n f)) (r ∙ ap reply-for z ∙ reply-for-is n (refusals os n f)) (refusal-some n (refusals os n f))
 
 -- ---- what is read the short way is served
 served-way : (w : Way) → isServed w ≡ true → goesUp w ≡ true
@@ -230,7 +269,7 @@ served-understood os x e s =
     (leb-true (length os) 1024 (both-right (ltb 0 (length os)) (leb (length os) 1024) size)) (served-known (number-in os) s) (served-way (entry (number-in os) .0) s) s
 
 module _ (os : List ℕ) (dec : Decoded) (e : dec ≡ decoded os (decode os)) (k : dec .ok ≡ true) (s : is-served (dec .number) ≡ true) where
-  served-read : Bytes os → (u : Understood) → Asked dec u → (listed : List ℕ) → Lists dec listed → Understands os u listed
+  served-read : Bytes os → (u : Understood) → Asked (headOf dec) u → (listed : List ℕ) → Lists dec listed → Understands os u listed
   unfolding decoded noMessage
   served-read y u r listed l = go (decode os) refl
     where
@@ -243,18 +282,18 @@ module _ (os : List ℕ) (dec : Decoded) (e : dec ≡ decoded os (decode os)) (k
 module _ (os : List ℕ) (y : Bytes os) (u : Understood) (listed : List ℕ) where
   pub short-asks : (q : Short) → Shortly os q → q .first < 65536 → q .second < 65536 → q .third < 65536 → Requests (q .number) (q .first) (q .second) (q .third) 0 u
       → Understands os u listed
-  unfolding in-full Lists
+  unfolding in-full headOf Lists
   short-asks q h a b c r =
       served-read os (in-full q) (h .same) refl (h .served) y u
-      (rw (← small (q .first) (omega arith), ← small (q .second) (omega arith), ← small (q .third) (omega arith)) at r) listed refl
+      (rw (← small (q .first) (omega arith), ← small (q .second) (omega arith), ← small (q .third) (omega arith)) at r) listed (λ k. refl)
 
   pub list-asks : (l : Listing) → Listed os l listed → l .first < 65536 → l .second < 65536 → Requests (l .number) (l .first) (l .second) 0 (l .count) u
       → Understands os u listed
-  unfolding in-list Lists
+  unfolding in-list headOf Lists
   list-asks l h a b r =
       served-read os (in-list l listed) (h .same) refl (h .served) y u
       (rw (← small (l .first) (omega arith), ← small (l .second) (omega arith)) at r) listed
-      (sym (ap (λ n. take n (padded 64 (take (l .count) listed))) (sym (h .stored)) ∙ first-listed (take (l .count) listed)))
+      (λ k. sym (ap (λ n. take n (padded 64 (take (l .count) listed))) (sym (h .stored)) ∙ first-listed (take (l .count) listed)))
 
 -- ---- what is asked, by the reply
 module _ (new : ℕ) (d : Domain) (p room : ℕ) (os : List ℕ) (u : Understood) (listed : List ℕ) where

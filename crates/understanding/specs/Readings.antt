@@ -6,7 +6,7 @@ use lib.Dec.{eqb}
 use lib.ListN.{take, getD}
 use Rattle.places.specs.Sets.{if_then_else_}
 use Rattle.messages.specs.Named.{Message}
-use Rattle.reader.specs.declared.Decoded.{Decoded}
+use Rattle.reader.specs.declared.Head.{Head}
 use Rattle.domain.specs.Numbers.{replyNumber}
 use Rattle.domain.specs.Tables.{Domain}
 use Rattle.domain.specs.Events.{Outcome, act, answers, ends, sends, complaint}
@@ -39,5 +39,5 @@ pub record Requests (number first second third count : ℕ) (u : Understood) : T
   pub third-is : u .third ≡ third
   pub count-is : u .count ≡ count
 
-abbrev pub Asked : Decoded → Understood → Type 0
-Asked d u = Requests (d .number) (getD (d .values) 0 0 % 65536) (getD (d .values) 1 0 % 65536) (getD (d .values) 2 0 % 65536) (d .count) u
+abbrev pub Asked : Head → Understood → Type 0
+Asked h u = Requests (h .number) (getD (h .values) 0 0 % 65536) (getD (h .values) 1 0 % 65536) (getD (h .values) 2 0 % 65536) (h .count) u

@@ -3,7 +3,7 @@ ghost use mathlib.Core.Path.{_≡_};
 ghost use Rattle.domain.specs.Numbers.{replyNumber};
 ghost use Rattle.understanding.specs.Readings.{reply-for, Understands, Requests, Asked};
 use domain::numbers::Reply;
-use reader::Decoded;
+use reader::Head;
 
 // A reply that refuses, or Done with a request: its number, first values and how many ids it lists.
 pub struct Understood {
@@ -54,13 +54,11 @@ fn understand_all(octets: &[u8], listed: &mut [u16; 64]) -> Understood
     if !messages::is_served(line) {
         return refused(Reply::NotServed);
     }
-    let d = reader::decode(octets);
-    if d.ok {
-        let ids = d.ids;
-        *listed = ids;
-        return asked(d);
+    let h = reader::read_into(octets, listed);
+    if h.ok {
+        return asked(h);
     }
-    refused(reply_of(d.refusal))
+    refused(reply_of(h.refusal))
 }
 
 // The reply of a codec's refusal.
@@ -103,15 +101,15 @@ fn done(number: u32, first: u16, second: u16, third: u16, count: usize) -> Under
 }
 
 // The request of a message that was read; ids and codes are below 65,536.
-fn asked(d: Decoded) -> Understood
-    ensures { λ r. ⌜ Asked d r ⌝ }
+fn asked(h: Head) -> Understood
+    ensures { λ r. ⌜ Asked h r ⌝ }
 {
-    let values = d.values;
+    let values = h.values;
     done(
-        d.number,
+        h.number,
         (values[0] % 65536) as u16,
         (values[1] % 65536) as u16,
         (values[2] % 65536) as u16,
-        d.count,
+        h.count,
     )
 }

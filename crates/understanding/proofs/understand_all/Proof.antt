@@ -4,7 +4,7 @@ use borrow.Author.Tests.{not-true, not-false}
 use mathlib.Core.Path.{refl, sym, ap, _∙_}
 use Rattle.domain.specs.Numbers.{replyNumber}
 use Rattle.understanding.specs.Understood.{number-in}
-use Rattle.understanding.proofs.Understanding.{none-understood, long-understood, unknown-understood, down-understood, unserved-understood, read-understood, refuses-asks, Lists, asked-asks, codec-asks}
+use Rattle.understanding.proofs.Understanding.{none-understood, long-understood, unknown-understood, down-understood, unserved-understood, read-understood, refuses-asks, head-asks, codec-asks}
 use Rattle.messages.proofs.ColumnLaws.{up-at, served-at}
 use borrow.Author.Needs.{needs}
 use Rattle.understanding.proofs.understand_all.Statement.{statement}
@@ -58,21 +58,21 @@ returns-5 : tie.Need-returns-5
 unfolding number-in
 returns-5 c = refuses-asks (c .before .before .before .before .before .before .before .before .before .before .before .args .octets .now) 7 _ _ (unserved-understood (c .before .before .before .before .before .before .before .before .before .before .before .args .octets .now) (search needs) (search needs) (c .before .before .before .before .before .before .if3 .left) (sym (c .before .before .before .before .goes-up .ensures ∙ up-at _ _ (c .before .before .before .before .before .entry-of .ensures)) ∙ not-false _ (c .before .before .before .if4 .left)) (sym (c .before .before .is-served .ensures ∙ served-at _ _ (c .before .before .before .before .before .entry-of .ensures)) ∙ not-true _ (c .before .if5 .taken))) (ap replyNumber (c .refused5 .ensures)) refl
 
-decode-requires : tie.Need-decode-requires
-decode-requires c κs = search needs
+read-into-requires : tie.Need-read-into-requires
+read-into-requires c κs = search needs
 
 asked-requires : tie.Need-asked-requires
 asked-requires c κs = search needs
 
 returns-6 : tie.Need-returns-6
-unfolding number-in Lists
+unfolding number-in
 returns-6 c =
     let d = c .before .before .before in
     let os = d .before .before .before .before .before .before .before .before .before .before .before .args .octets .now in
     let s = sym (d .before .before .is-served .ensures ∙ served-at _ _ (d .before .before .before .before .before .entry-of .ensures)) ∙ not-false _ (d .before .if5 .left) in
     let up = sym (d .before .before .before .before .goes-up .ensures ∙ up-at _ _ (d .before .before .before .before .before .entry-of .ensures)) ∙ not-false _ (d .before .before .before .if4 .left) in
     let i = read-understood os (search needs) (search needs) (d .before .before .before .before .before .before .if3 .left) up s in
-    asked-asks os _ _ (c .asked .ensures) _ refl (d .decode .ensures) i (bytes-at os (λ i. omega (arith, d .before .before .before .before .before .before .before .shared-slice-known2 .given i))) (c .before .before .if6 .taken) s
+    head-asks os _ _ _ (c .before .before .read-into .ensures) _ i (c .asked .ensures) (bytes-at os (λ i. omega (arith, d .before .before .before .before .before .before .before .shared-slice-known2 .given i))) (c .before .if6 .taken) s
 
 reply-of-requires : tie.Need-reply-of-requires
 reply-of-requires c κs = search needs
@@ -83,12 +83,12 @@ refused-requires-6 c κs = search needs
 returns-7 : tie.Need-returns-7
 unfolding number-in
 returns-7 c =
-    let d = c .before .before .before in
+    let d = c .before .before .before .before in
     let os = d .before .before .before .before .before .before .before .before .before .before .before .args .octets .now in
     let s = sym (d .before .before .is-served .ensures ∙ served-at _ _ (d .before .before .before .before .before .entry-of .ensures)) ∙ not-false _ (d .before .if5 .left) in
     let up = sym (d .before .before .before .before .goes-up .ensures ∙ up-at _ _ (d .before .before .before .before .before .entry-of .ensures)) ∙ not-false _ (d .before .before .before .if4 .left) in
     let i = read-understood os (search needs) (search needs) (d .before .before .before .before .before .before .if3 .left) up s in
-    codec-asks os _ (d .decode .ensures) _ _ i (c .before .before .if6 .left) (ap replyNumber (c .refused6 .ensures) ∙ c .before .reply-of .ensures)
+    codec-asks os _ _ _ (c .before .before .before .read-into .ensures) _ i (c .before .before .if6 .left) (ap replyNumber (c .refused6 .ensures) ∙ c .before .reply-of .ensures)
 
 pub understand-all-spec : {M : Type 1} → statement M
 understand-all-spec =
@@ -109,7 +109,7 @@ understand-all-spec =
     is-served-requires
     refused-requires-5
     returns-5
-    decode-requires
+    read-into-requires
     asked-requires
     returns-6
     reply-of-requires
