@@ -32,7 +32,7 @@ same-length-2 c = search needs
 
 returns-2 : tie.Need-returns-2
 unfolding request
-returns-2 c = rw (le-ltb 28 _ (c .before .before .before .before .before .before .before .before .before .before .before .before .if1 .left), lt-ltb 16 _ (c .before .before .before .before .before .before .before .before .before .before .before .if2 .taken)) (c .before .before .request2 .ensures _ _)
+returns-2 c = rw (le-ltb 28 _ (c .before .before .before .before .before .before .before .before .before .before .before .before .before .if1 .left), lt-ltb 16 _ (c .before .before .before .before .before .before .before .before .before .before .before .before .if2 .taken)) (c .before .before .request2 .ensures _ _)
 
 attach-requires : tie.Need-attach-requires
 attach-requires c κs = search needs
@@ -68,9 +68,9 @@ same-length-4 c = search needs
 
 returns-5 : tie.Need-returns-5
 unfolding request user-request act
-returns-5 c = let a = c .before .before .before .before .before .before .before .before .before .before .before .before .before .before .before .before .before .before .before .args in
+returns-5 c = let a = c .before .before .before .before .before .before .before .before .before .before .before .before .before .before .before .before .before .before .before .before .args in
     let z : a .first % 8 % 8 ≡ a .first % 8 = omega arith in
-    rw (le-ltb 28 _ (c .before .before .before .before .before .before .before .before .before .before .before .before .before .before .before .before .before .if1 .left), le-ltb 16 _ (c .before .before .before .before .before .before .before .before .before .before .before .before .before .before .before .before .if2 .left), c .before .before .before .before .before .before .before .before .before .before .before .before .before .before .before .match .keys3) (rw z at (c .before .before .detach .ensures (a .limits)))
+    rw (le-ltb 28 _ (c .before .before .before .before .before .before .before .before .before .before .before .before .before .before .before .before .before .before .if1 .left), le-ltb 16 _ (c .before .before .before .before .before .before .before .before .before .before .before .before .before .before .before .before .before .if2 .left), c .before .before .before .before .before .before .before .before .before .before .before .before .before .before .before .before .match .keys3) (rw z at (c .before .before .detach .ensures (a .limits)))
 
 same-length-5 : tie.Need-same-length-5
 same-length-5 c = search needs
@@ -84,7 +84,7 @@ same-length-6 c = search needs
 
 returns-7 : tie.Need-returns-7
 unfolding request user-request act
-returns-7 c = let a = c .before .before .before .before .before .before .before .before .before .before .before .before .before .args in on-channels (a .limits) _ _ _ _ _ (a .p) (request (a .number) (a .first) (a .second) (a .third) (take (a .count) (a .listed .now))) _ _ (c .before .before .leave-channels .ensures) (rw (le-ltb 28 _ (c .before .before .before .before .before .before .before .before .before .before .before .if1 .left), le-ltb 16 _ (c .before .before .before .before .before .before .before .before .before .before .if2 .left), c .before .before .before .before .before .before .before .before .before .match .keys5) refl)
+returns-7 c = let a = c .before .before .before .before .before .before .before .before .before .before .before .before .before .before .args in on-channels (a .limits) _ _ _ _ _ (a .p) (request (a .number) (a .first) (a .second) (a .third) (take (a .count) (a .listed .now))) _ _ (c .before .before .leave-channels .ensures) (rw (le-ltb 28 _ (c .before .before .before .before .before .before .before .before .before .before .before .before .if1 .left), le-ltb 16 _ (c .before .before .before .before .before .before .before .before .before .before .before .if2 .left), c .before .before .before .before .before .before .before .before .before .before .match .keys5) refl)
 
 same-length-7 : tie.Need-same-length-7
 same-length-7 c = search needs
@@ -96,9 +96,9 @@ closes n a b c ids l m e1 e10 e12 e14 e16 = rw (le-ltb 28 n l, le-ltb 16 n m, ne
 
 returns-8 : tie.Need-returns-8
 unfolding act
-returns-8 c = let a = c .before .before .before .before .before .before .before .before .before .before .before .before .before .before .before .before .before .before .before .args in
-    let r = c .before .before .before .before .before .before .before .before .before .before .before .before .before .before .before .match .rest in
-    rw (closes (a .number) (a .first) (a .second) (a .third) (take (a .count) (a .listed .now)) (c .before .before .before .before .before .before .before .before .before .before .before .before .before .before .before .before .before .if1 .left) (c .before .before .before .before .before .before .before .before .before .before .before .before .before .before .before .before .if2 .left) (r .0 .0 .0 .0 .1) (r .0 .0 .0 .1) (r .0 .0 .1) (r .0 .1) (r .1))
+returns-8 c = let a = c .before .before .before .before .before .before .before .before .before .before .before .before .before .before .before .before .before .before .before .before .args in
+    let r = c .before .before .before .before .before .before .before .before .before .before .before .before .before .before .before .before .match .rest in
+    rw (closes (a .number) (a .first) (a .second) (a .third) (take (a .count) (a .listed .now)) (c .before .before .before .before .before .before .before .before .before .before .before .before .before .before .before .before .before .before .if1 .left) (c .before .before .before .before .before .before .before .before .before .before .before .before .before .before .before .before .before .if2 .left) (r .0 .0 .0 .0 .1) (r .0 .0 .0 .1) (r .0 .0 .1) (r .0 .1) (r .1))
     (c .before .before .close .ensures (a .limits))
 
 pub request-spec : {M : Type 1} → statement M
