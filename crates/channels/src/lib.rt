@@ -54,7 +54,7 @@ pub fn attach(
     if tables::at_limit(limit, ids) {
         return confirms::deny_user(out, p, Result::TooManyChannels);
     }
-    let new = places::columns::unused(ids);
+    let new = columns::unused(ids);
     let a = confirms::take_user(out, p, new);
     if answers::refused(a) {
         return a;
@@ -96,7 +96,7 @@ fn join_at(
         role: ch.role,
         chair: ch.chair,
         guests: ch.guests,
-        marks: places::masks::with_link(ch.marks, p),
+        marks: masks::with_link(ch.marks, p),
     };
     tables::channels::set_channel(roles, chairs, guests, marks, j, now);
     a
@@ -125,7 +125,7 @@ fn start(
     if answers::refused(a) {
         return a;
     }
-    let ch = states::channel::new_channel(k, places::masks::link(p));
+    let ch = states::channel::new_channel(k, masks::link(p));
     tables::channels::add_channel(ids, roles, chairs, guests, marks, new, ch);
     a
 }
@@ -155,7 +155,7 @@ fn join_new(
         return confirms::deny_join(out, p, Result::TooManyChannels, u, c);
     }
     if c == 0 {
-        let new = places::columns::unused(ids);
+        let new = columns::unused(ids);
         return start(
             ids,
             roles,
@@ -211,7 +211,7 @@ pub fn join(
     if 64 <= i {
         return answers::ignored();
     }
-    let j = places::columns::find(ids, c);
+    let j = columns::find(ids, c);
     if j < 128 {
         return join_at(roles, chairs, guests, marks, p, u, c, i as u8, j, out);
     }
@@ -230,10 +230,10 @@ fn joined(
 ) -> bool
     ensures { λ r. ⌜ r ≡ joinedIn (channels-of (now (ids .entry)) (now (roles .entry)) (now (chairs .entry)) (now (guests .entry)) (now (marks .entry))) p c ⌝ }
 {
-    let j = places::columns::find(ids, c);
+    let j = columns::find(ids, c);
     if j < 128 {
         let ch = tables::channels::channel_at(roles, chairs, guests, marks, j);
-        return places::masks::has(ch.marks as u64, p);
+        return masks::has(ch.marks as u64, p);
     }
     false
 }
@@ -290,9 +290,9 @@ fn leave_at(
     if c == 0 {
         return;
     }
-    if places::columns::member(listed, c) {
+    if columns::member(listed, c) {
         let ch = tables::channels::channel_at(roles, chairs, guests, marks, j);
-        let left = places::masks::without_link(ch.marks, p);
+        let left = masks::without_link(ch.marks, p);
         if ends(ch, left) {
             tables::channels::end_channel(ids, roles, chairs, guests, marks, j);
             return;
@@ -339,10 +339,10 @@ fn leave_all(
         ≡ sweep-channels (left p (now (listed .entry))) (channels-of (now (ids .entry)) (now (roles .entry)) (now (chairs .entry)) (now (guests .entry)) (now (marks .entry))) ⌝ }
 {
     let n = width(ids, roles, chairs, guests, marks);
-    let mut j = places::columns::used_from(ids, 0);
+    let mut j = columns::used_from(ids, 0);
     while j < n {
         leave_at(ids, roles, chairs, guests, marks, p, listed, j);
-        j = places::columns::used_from(ids, j + 1);
+        j = columns::used_from(ids, j + 1);
     }
 }
 
@@ -364,7 +364,7 @@ pub fn leave_channels(
         (now (out .entry)) ⌝ }
 {
     let all = &listed[..];
-    let n = places::columns::at_most(count, all.len());
+    let n = columns::at_most(count, all.len());
     let list = &all[..n];
     if joined_any(ids, roles, chairs, guests, marks, p, list) {
         leave_all(ids, roles, chairs, guests, marks, p, list);

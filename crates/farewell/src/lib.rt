@@ -59,7 +59,7 @@ fn kind_of(
     // How long the columns are: behind the last place a channel is blank.
     let n = ids[..].len();
     let m = roles[..].len();
-    let j = places::columns::find(ids, c);
+    let j = columns::find(ids, c);
     states::channel::kind_of(tables::channels::channel_at(roles, chairs, guests, marks, j))
 }
 
@@ -79,9 +79,9 @@ fn put_ended(
 {
     match k {
         Kind::Private(g, guests) => {
-            if places::masks::has(gone, g) {
-                let held = tables::users::hosts(names, homes, places::masks::with_seat(guests, g));
-                let told = places::masks::common_links(held, live);
+            if masks::has(gone, g) {
+                let held = tables::users::hosts(names, homes, masks::with_seat(guests, g));
+                let told = masks::common_links(held, live);
                 let m = compose::disband_indication(c);
                 return records::tell(out, at, told, &m);
             }
@@ -117,7 +117,7 @@ fn put_listed(
     let mut low: u16 = 0;
     let mut left = ending.len();
     while 0 < left {
-        let c = places::columns::next(ending, low);
+        let c = columns::next(ending, low);
         if c == 0 {
             return at;
         }
@@ -133,7 +133,7 @@ fn put_listed(
 fn ends(role: u8, chair: u8, gone: u64) -> bool
     ensures { λ r. ⌜ r ≡ ends-by gone role chair ⌝ }
 {
-    (role == 3) & places::masks::has(gone, chair)
+    (role == 3) & masks::has(gone, chair)
 }
 
 // A place counts if its channel ends and its id is not 0.
@@ -180,10 +180,10 @@ fn list_ends(
     // How long the column is: a role for each id.
     let all = ids[..].len();
     let mut n = 0;
-    let mut j = places::columns::cell_from(roles, 0, 3);
+    let mut j = columns::cell_from(roles, 0, 3);
     while j < 128 {
         n = add_end(ids, roles, chairs, gone, j, ending, n);
-        j = places::columns::cell_from(roles, j + 1, 3);
+        j = columns::cell_from(roles, j + 1, 3);
     }
     n
 }
@@ -244,7 +244,7 @@ fn put_any_ends(
         (channels-of (now (ids .entry)) (now (roles .entry)) (now (chairs .entry)) (now (guests .entry)) (now (marks .entry))) gone live)
         (inOrder (now (ids .entry))))) (now (out .exit)) r) × (r ≤ from + 14336) ⌝ }
 {
-    if places::columns::any_is(roles, 3) {
+    if columns::any_is(roles, 3) {
         return put_ends(
             out,
             from,
@@ -299,8 +299,8 @@ fn put_returned(
 {
     match h {
         Holding::Giving(g, r) => {
-            if places::masks::has(gone, r) {
-                if places::masks::has(gone, g) {
+            if masks::has(gone, r) {
+                if masks::has(gone, g) {
                     return at;
                 }
                 return put_refusal(out, at, names, homes, gone, k, g, r);
@@ -333,7 +333,7 @@ fn put_returns(
     let mut low: u16 = 0;
     let mut left = keys[..].len();
     while 0 < left {
-        let k = places::columns::next_where(keys, modes, 3, low);
+        let k = columns::next_where(keys, modes, 3, low);
         if k == 0 {
             return at;
         }
@@ -360,7 +360,7 @@ fn put_any_returns(
     ensures { λ r. ⌜ Puts (now (out .entry)) from (recordsOf (each (return-at (users-of (now (names .entry)) (now (homes .entry)))
         (tokens-of (now (keys .entry)) (now (modes .entry)) (now (values .entry))) gone) (inOrder (now (keys .entry))))) (now (out .exit)) r ⌝ }
 {
-    if places::columns::any_is(modes, 3) {
+    if columns::any_is(modes, 3) {
         return put_returns(out, from, names, homes, keys, modes, values, gone);
     }
     from

@@ -33,7 +33,7 @@ fn counts(k: Pick, i: u8) -> bool
 {
     match k {
         Pick::Attached => true,
-        Pick::Admitted(adm) => places::masks::has(adm, i),
+        Pick::Admitted(adm) => masks::has(adm, i),
     }
 }
 
@@ -77,18 +77,18 @@ fn take_one(
 {
     let at = &homes[..];
     let x = list[i];
-    let j = places::columns::find(names, x);
+    let j = columns::find(names, x);
     if j < at.len() {
         let seat = j as u8;
         if counts(k, seat) {
-            if !places::masks::has(t.seats, seat) {
+            if !masks::has(t.seats, seat) {
                 let n = t.count;
                 kept[n] = x;
                 spots[n] = at[j];
                 add_share(shares, firsts, at[j], n as u8);
                 return Taken {
                     count: n + 1,
-                    seats: places::masks::with_seat(t.seats, seat),
+                    seats: masks::with_seat(t.seats, seat),
                 };
             }
         }
@@ -113,7 +113,7 @@ fn chosen(
         × (r .count ≤ 64) ⌝ }
 {
     let all = &listed[..];
-    let m = places::columns::at_most(count, 64);
+    let m = columns::at_most(count, 64);
     let mut t = Taken { count: 0, seats: 0 };
     let mut i = 0;
     while i < m {

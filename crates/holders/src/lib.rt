@@ -21,7 +21,7 @@ fn put_rising(out: &mut [u8], filled: usize, ids: &[u16]) -> usize
     let mut low: u16 = 0;
     let mut left = ids.len();
     while 0 < left {
-        let k = places::columns::next(ids, low);
+        let k = columns::next(ids, low);
         if k == 0 {
             return at;
         }
@@ -48,7 +48,7 @@ fn name_at(names: &[u16; 64], i: u8) -> u16
 fn chosen(us: u64, i: usize, id: u16) -> u16
     ensures { λ r. ⌜ r ≡ (if has us (i % 64) then id else 0) ⌝ }
 {
-    if places::masks::has(us, (i % 64) as u8) {
+    if masks::has(us, (i % 64) as u8) {
         return id;
     }
     0
@@ -122,7 +122,7 @@ fn put_tokens(
     let mut low: u16 = 0;
     let mut left = list.len();
     while 0 < left {
-        let k = places::columns::next(list, low);
+        let k = columns::next(list, low);
         if k == 0 {
             return at;
         }
@@ -212,7 +212,7 @@ pub fn put_table(
     ensures { λ r. ⌜ Says (now (out .entry)) filled (tableTexts (now (names .entry)) (tokens-of (now (keys .entry)) (now (modes .entry)) (now (values .entry)))) (now (out .exit)) r ⌝ }
 {
     let a = say(out, filled, b"tokens in use: ");
-    let b = say_number(out, a, places::columns::used(keys) as u64);
+    let b = say_number(out, a, columns::used(keys) as u64);
     let c = say(out, b, b"\n");
     put_tokens(out, c, names, keys, modes, values, keys)
 }

@@ -48,7 +48,7 @@ fn add_listed(
     // How long the list is: no more ids are held.
     let room = list[..].len();
     let u = ids[i];
-    if places::columns::member(&ids[..i], u) {
+    if columns::member(&ids[..i], u) {
         return n;
     }
     add_leaver(names, homes, p, u, list, n)
@@ -96,7 +96,7 @@ pub fn all_on(names: &[u16; 64], homes: &[u8; 64], p: u8, list: &mut [u16; 64]) 
     let mut low: u16 = 0;
     let mut left = names[..].len();
     while 0 < left {
-        let u = places::columns::next_where(names, homes, p, low);
+        let u = columns::next_where(names, homes, p, low);
         if u == 0 {
             return n;
         }

@@ -241,7 +241,7 @@ pub fn close(
 {
     let reason = states::numbers::reason_number(Reason::DomainDisconnected);
     let n = leavers::all_on(names, homes, p, list);
-    let live = places::masks::without_link(*links, p);
+    let live = masks::without_link(*links, p);
     leave(
         links,
         names,

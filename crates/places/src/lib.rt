@@ -1,3 +1,1 @@
-// Masks and columns of ids: what every table of the domain is made of.
-pub mod columns;
-pub mod masks;
+// Masks and columns of ids as definitions, and their laws: what every table of the domain is made of. The code is in `masks` and `columns`.

@@ -51,7 +51,7 @@ pub fn convene(
     if tables::at_limit(limit, ids) {
         return confirms::deny_convene(out, p, Result::TooManyChannels, u);
     }
-    let new = places::columns::unused(ids);
+    let new = columns::unused(ids);
     let a = confirms::take_convene(out, p, u, new);
     if answers::refused(a) {
         return a;
@@ -96,7 +96,7 @@ fn managed(
     if 64 <= i {
         return 128;
     }
-    let j = places::columns::find(ids, c);
+    let j = columns::find(ids, c);
     if j < 128 {
         let ch = tables::channels::channel_at(roles, chairs, guests, marks, j);
         if presides(ch, i as u8) {
@@ -110,7 +110,7 @@ fn managed(
 fn homes_of(names: &[u16; 64], homes: &[u8; 64], chair: u8, guests: u64) -> u16
     ensures { λ r. ⌜ r ≡ hostsOf (users-of (now (names .entry)) (now (homes .entry))) (with seats guests chair) ⌝ }
 {
-    tables::users::hosts(names, homes, places::masks::with_seat(guests, chair))
+    tables::users::hosts(names, homes, masks::with_seat(guests, chair))
 }
 
 // CDrq by u on p for channel c.
@@ -165,17 +165,17 @@ fn with_change(names: &[u16; 64], homes: &[u8; 64], s: Say, ch: Channel, seats: 
         Say::Admits(_, _) => Channel {
             role: ch.role,
             chair: ch.chair,
-            guests: places::masks::all_seats(ch.guests, seats),
+            guests: masks::all_seats(ch.guests, seats),
             marks: ch.marks,
         },
         Say::Expels(_) => {
-            let stay = places::masks::other_seats(ch.guests, seats);
+            let stay = masks::other_seats(ch.guests, seats);
             let mask = homes_of(names, homes, ch.chair, stay);
             Channel {
                 role: ch.role,
                 chair: ch.chair,
                 guests: stay,
-                marks: places::masks::common_links(ch.marks, mask),
+                marks: masks::common_links(ch.marks, mask),
             }
         }
     }

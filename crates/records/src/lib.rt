@@ -152,10 +152,10 @@ fn tell_all(out: &mut [u8], from: usize, mask: u16, m: &[u8]) -> usize
 {
     let all = mask as u64;
     let mut at = from;
-    let mut q = places::masks::next_in(all, 0);
+    let mut q = masks::next_in(all, 0);
     while q < 16 {
         at = lay_record(out, at, q as u8, m);
-        q = places::masks::next_in(all, q + 1);
+        q = masks::next_in(all, q + 1);
     }
     at
 }
@@ -164,7 +164,7 @@ fn tell_all(out: &mut [u8], from: usize, mask: u16, m: &[u8]) -> usize
 pub fn told_size(mask: u16, m: &[u8]) -> usize
     ensures { λ r. ⌜ r ≡ length (guarded 0 (now (m .entry)) (told mask (now (m .entry)))) ⌝ }
 {
-    let count = places::masks::count_links(mask) as usize;
+    let count = masks::count_links(mask) as usize;
     count * record_size(m)
 }
 

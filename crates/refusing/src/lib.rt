@@ -21,7 +21,7 @@ pub fn is_open(links: u16, p: u8) -> bool
     if 15 < p {
         return false;
     }
-    places::masks::has(links as u64, p)
+    masks::has(links as u64, p)
 }
 
 // A refusal: bad encoding and what may not go up are answered by an RJum, all else by nothing.

@@ -100,9 +100,9 @@ pub fn open(links: &mut u16, p: u8) -> Reply
     if 15 < p {
         return Reply::NotOpen;
     }
-    if places::masks::has(before as u64, p) {
+    if masks::has(before as u64, p) {
         return Reply::OpenAlready;
     }
-    *links = places::masks::with_link(before, p);
+    *links = masks::with_link(before, p);
     Reply::Done
 }

@@ -79,7 +79,7 @@ pub fn may_join(k: Kind, c: u16, u: u16, i: u8) -> Result
             if g == i {
                 return Result::Successful;
             }
-            if places::masks::has(us, i) {
+            if masks::has(us, i) {
                 Result::Successful
             } else {
                 Result::NotAdmitted

@@ -68,7 +68,7 @@ pub fn status(h: Holding, u: u8) -> Status
             Status::OtherGrabbed
         },
         Holding::Inhibited(us) => {
-            if places::masks::has(us, u) {
+            if masks::has(us, u) {
                 Status::SelfInhibited
             } else {
                 Status::OtherInhibited
@@ -106,7 +106,7 @@ pub fn grab(full: bool, h: Holding, u: u8) -> Turned
         }
         Holding::Grabbed(_) => Turned::Fails(Result::TokenNotAvailable),
         Holding::Inhibited(us) => {
-            if us == places::masks::seat(u) {
+            if us == masks::seat(u) {
                 Turned::Turns(Holding::Grabbed(u))
             } else {
                 Turned::Fails(Result::TokenNotAvailable)
@@ -126,20 +126,17 @@ pub fn inhibit(full: bool, h: Holding, u: u8) -> Turned
             if full {
                 Turned::Fails(Result::TooManyTokens)
             } else {
-                Turned::Turns(Holding::Inhibited(places::masks::seat(u)))
+                Turned::Turns(Holding::Inhibited(masks::seat(u)))
             }
         }
         Holding::Grabbed(g) => {
             if g == u {
-                Turned::Turns(Holding::Inhibited(places::masks::seat(u)))
+                Turned::Turns(Holding::Inhibited(masks::seat(u)))
             } else {
                 Turned::Fails(Result::TokenNotAvailable)
             }
         }
-        Holding::Inhibited(us) => Turned::Turns(Holding::Inhibited(places::masks::with_seat(
-            us,
-            u,
-        ))),
+        Holding::Inhibited(us) => Turned::Turns(Holding::Inhibited(masks::with_seat(us, u))),
         Holding::Giving(_, _) => Turned::Fails(Result::TokenNotAvailable),
         Holding::Given(_) => Turned::Fails(Result::TokenNotAvailable),
     }
@@ -159,8 +156,8 @@ pub fn release(h: Holding, u: u8) -> Turned
             }
         }
         Holding::Inhibited(us) => {
-            if places::masks::has(us, u) {
-                Turned::Turns(inhibited(places::masks::without_seat(us, u)))
+            if masks::has(us, u) {
+                Turned::Turns(inhibited(masks::without_seat(us, u)))
             } else {
                 Turned::Fails(Result::TokenNotPossessed)
             }
@@ -234,10 +231,10 @@ pub fn party(h: Holding) -> u64
 {
     match h {
         Holding::Free => 0,
-        Holding::Grabbed(g) => places::masks::seat(g),
+        Holding::Grabbed(g) => masks::seat(g),
         Holding::Inhibited(us) => us,
-        Holding::Giving(g, r) => places::masks::with_seat(places::masks::seat(g), r),
-        Holding::Given(r) => places::masks::seat(r),
+        Holding::Giving(g, r) => masks::with_seat(masks::seat(g), r),
+        Holding::Given(r) => masks::seat(r),
     }
 }
 
@@ -247,19 +244,14 @@ pub fn lose(gone: u64, h: Holding) -> Holding
 {
     match h {
         Holding::Free => Holding::Free,
-        Holding::Grabbed(g) => if places::masks::has(gone, g) {
+        Holding::Grabbed(g) => if masks::has(gone, g) {
             Holding::Free
         } else {
             Holding::Grabbed(g)
         },
-        Holding::Inhibited(us) => inhibited(places::masks::other_seats(us, gone)),
-        Holding::Giving(g, r) => lose_offer(
-            places::masks::has(gone, g),
-            places::masks::has(gone, r),
-            g,
-            r,
-        ),
-        Holding::Given(r) => if places::masks::has(gone, r) {
+        Holding::Inhibited(us) => inhibited(masks::other_seats(us, gone)),
+        Holding::Giving(g, r) => lose_offer(masks::has(gone, g), masks::has(gone, r), g, r),
+        Holding::Given(r) => if masks::has(gone, r) {
             Holding::Free
         } else {
             Holding::Given(r)

@@ -48,12 +48,12 @@ fn private(names: &[u16; 64], homes: &[u8; 64], ch: Channel, g: u8, guests: u64,
             marks: 0,
         };
     }
-    let held = tables::users::hosts(names, homes, places::masks::with_seat(guests, g));
+    let held = tables::users::hosts(names, homes, masks::with_seat(guests, g));
     Channel {
         role: ch.role,
         chair: ch.chair,
         guests: guests,
-        marks: places::masks::common_links(m, held),
+        marks: masks::common_links(m, held),
     }
 }
 
@@ -63,10 +63,10 @@ fn user_gone(names: &[u16; 64], list: &[u16], c: u16) -> bool
 {
     // How many places there are: an id that is found nowhere is at that number.
     let all = names[..].len();
-    if !places::columns::member(list, c) {
+    if !columns::member(list, c) {
         return false;
     }
-    places::columns::find(names, c) < all
+    columns::find(names, c) < all
 }
 
 // What becomes of channel c; `gone` are the places of those listed.
@@ -82,7 +82,7 @@ fn fate_of(
     requires { ⌜ gone ≡ placesOf (users-of (now names) (now homes)) (now list) ⌝ }
     ensures { λ r. ⌜ fateOf r ≡ fateIn (users-of (now (names .entry)) (now (homes .entry))) gone live c ch ⌝ }
 {
-    let m = places::masks::common_links(ch.marks, live);
+    let m = masks::common_links(ch.marks, live);
     let k = states::channel::kind_of(ch);
     match k {
         Kind::Static => marked(ch, m),
@@ -93,10 +93,10 @@ fn fate_of(
             marked(ch, m)
         }
         Kind::Private(g, guests) => {
-            if places::masks::has(gone, g) {
+            if masks::has(gone, g) {
                 return Fate::Ends;
             }
-            let left = places::masks::other_seats(guests, gone);
+            let left = masks::other_seats(guests, gone);
             Fate::Stays(private(names, homes, ch, g, left, m))
         }
         Kind::Assigned => marked(ch, m),
@@ -161,7 +161,7 @@ pub fn leave(
     let n3 = chairs[..].len();
     let n4 = guests[..].len();
     let n5 = marks[..].len();
-    let mut j = places::columns::used_from(ids, 0);
+    let mut j = columns::used_from(ids, 0);
     while j < 128 {
         leave_place(
             names,
@@ -176,6 +176,6 @@ pub fn leave(
             live,
             j,
         );
-        j = places::columns::used_from(ids, j + 1);
+        j = columns::used_from(ids, j + 1);
     }
 }

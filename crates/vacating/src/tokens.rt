@@ -50,9 +50,9 @@ pub fn leave(keys: &mut [u16; 64], modes: &mut [u8; 64], values: &mut [u64; 64],
     let n = keys[..].len();
     let m = modes[..].len();
     let o = values[..].len();
-    let mut j = places::columns::used_from(keys, 0);
+    let mut j = columns::used_from(keys, 0);
     while j < 64 {
         leave_place(keys, modes, values, gone, j);
-        j = places::columns::used_from(keys, j + 1);
+        j = columns::used_from(keys, j + 1);
     }
 }

@@ -24,9 +24,9 @@ pub fn leave(names: &mut [u16; 64], homes: &mut [u8; 64], gone: u64)
     // How long the columns are: what the loop keeps.
     let n = names[..].len();
     let m = homes[..].len();
-    let mut j = places::masks::next_in(gone, 0);
+    let mut j = masks::next_in(gone, 0);
     while j < 64 {
         leave_place(names, homes, j);
-        j = places::masks::next_in(gone, j + 1);
+        j = masks::next_in(gone, j + 1);
     }
 }
