@@ -15,7 +15,7 @@ pub fn audience(
 ) -> u32
     ensures { λ r. ⌜ r ≡ audienceOf (channels-of (now (ids .entry)) (now (roles .entry)) (now (chairs .entry)) (now (guests .entry)) (now (marks .entry))) c ⌝ }
 {
-    let j = columns::find(ids, c);
+    let j = seeking::find(ids, c);
     let rs = &roles[..];
     if j < rs.len() {
         let ch = tables::channels::channel_at(roles, chairs, guests, marks, j);
@@ -28,5 +28,5 @@ pub fn audience(
 pub fn in_use(ids: &[u16]) -> usize
     ensures { λ r. ⌜ r ≡ used (now (ids .entry)) ⌝ }
 {
-    columns::used(ids)
+    counting::used(ids)
 }

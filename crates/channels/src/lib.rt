@@ -211,7 +211,7 @@ pub fn join(
     if 64 <= i {
         return answers::ignored();
     }
-    let j = columns::find(ids, c);
+    let j = seeking::find(ids, c);
     if j < 128 {
         return join_at(roles, chairs, guests, marks, p, u, c, i as u8, j, out);
     }
@@ -230,7 +230,7 @@ fn joined(
 ) -> bool
     ensures { λ r. ⌜ r ≡ joinedIn (channels-of (now (ids .entry)) (now (roles .entry)) (now (chairs .entry)) (now (guests .entry)) (now (marks .entry))) p c ⌝ }
 {
-    let j = columns::find(ids, c);
+    let j = seeking::find(ids, c);
     if j < 128 {
         let ch = tables::channels::channel_at(roles, chairs, guests, marks, j);
         return masks::has(ch.marks as u64, p);

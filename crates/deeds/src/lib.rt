@@ -121,7 +121,7 @@ fn offered(
     ensures { λ r. ⌜ ((ts : Tokens) → h ≡ state ts k → Does ts k r (offerOf (users-of (now (names .entry)) (now (homes .entry))) ts p u k recipient)) ⌝ }
 {
     if states::token::has_grabbed(h, i) {
-        let at = columns::find(names, recipient);
+        let at = seeking::find(names, recipient);
         if at < 64 {
             let j = at as u8;
             return Deed {

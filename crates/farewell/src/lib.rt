@@ -59,7 +59,7 @@ fn kind_of(
     // How long the columns are: behind the last place a channel is blank.
     let n = ids[..].len();
     let m = roles[..].len();
-    let j = columns::find(ids, c);
+    let j = seeking::find(ids, c);
     states::channel::kind_of(tables::channels::channel_at(roles, chairs, guests, marks, j))
 }
 

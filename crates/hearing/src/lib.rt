@@ -77,7 +77,7 @@ fn take_one(
 {
     let at = &homes[..];
     let x = list[i];
-    let j = columns::find(names, x);
+    let j = seeking::find(names, x);
     if j < at.len() {
         let seat = j as u8;
         if counts(k, seat) {

@@ -212,7 +212,7 @@ pub fn put_table(
     ensures { λ r. ⌜ Says (now (out .entry)) filled (tableTexts (now (names .entry)) (tokens-of (now (keys .entry)) (now (modes .entry)) (now (values .entry)))) (now (out .exit)) r ⌝ }
 {
     let a = say(out, filled, b"tokens in use: ");
-    let b = say_number(out, a, columns::used(keys) as u64);
+    let b = say_number(out, a, counting::used(keys) as u64);
     let c = say(out, b, b"\n");
     put_tokens(out, c, names, keys, modes, values, keys)
 }

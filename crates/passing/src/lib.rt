@@ -138,7 +138,7 @@ fn pass(
         ≡ settle (tokens-of (now (keys .entry)) (now (modes .entry)) (now (values .entry)))
         (asked ask (at-limit limit (now (keys .entry))) (users-of (now (names .entry)) (now (homes .entry))) (tokens-of (now (keys .entry)) (now (modes .entry)) (now (values .entry))) p u k) (now (out .entry)) ⌝ }
 {
-    let at = columns::find(keys, k);
+    let at = seeking::find(keys, k);
     let d = consider(names, homes, keys, modes, values, at, limit, p, u, k, ask);
     carry(keys, modes, values, at, k, d, out)
 }

@@ -96,7 +96,7 @@ fn managed(
     if 64 <= i {
         return 128;
     }
-    let j = columns::find(ids, c);
+    let j = seeking::find(ids, c);
     if j < 128 {
         let ch = tables::channels::channel_at(roles, chairs, guests, marks, j);
         if presides(ch, i as u8) {

@@ -68,7 +68,7 @@ pub fn add_channel(
     ensures { λ _. ⌜ channels-of (now (ids .exit)) (now (roles .exit)) (now (chairs .exit)) (now (guests .exit)) (now (marks .exit))
         ≡ add-channel (channels-of (now (ids .entry)) (now (roles .entry)) (now (chairs .entry)) (now (guests .entry)) (now (marks .entry))) c ch ⌝ }
 {
-    let j = columns::spare(ids);
+    let j = seeking::spare(ids);
     if j < 128 {
         ids[j] = c;
         set_channel(roles, chairs, guests, marks, j, ch);

@@ -10,5 +10,5 @@ ghost use Rattle.domain.specs.Tables.{at-limit};
 pub fn at_limit(limit: u8, ids: &[u16]) -> bool
     ensures { λ r. ⌜ r ≡ at-limit limit (now (ids .entry)) ⌝ }
 {
-    limit as usize <= columns::used(ids)
+    limit as usize <= counting::used(ids)
 }

@@ -27,7 +27,7 @@ pub fn state_at(modes: &[u8; 64], values: &[u64; 64], i: usize) -> Holding
 pub fn state(keys: &[u16; 64], modes: &[u8; 64], values: &[u64; 64], k: u16) -> Holding
     ensures { λ r. ⌜ r ≡ stateIn (tokens-of (now (keys .entry)) (now (modes .entry)) (now (values .entry))) k ⌝ }
 {
-    state_at(modes, values, columns::find(keys, k))
+    state_at(modes, values, seeking::find(keys, k))
 }
 
 // The place for a token: its own, or the spare one where it has none.
@@ -37,7 +37,7 @@ fn seat_for(keys: &[u16; 64], i: usize) -> usize
     if i < 64 {
         return i;
     }
-    columns::spare(keys)
+    seeking::spare(keys)
 }
 
 // Token k, which stands at place i or nowhere, has state h; a free token has no place.

@@ -11,7 +11,7 @@ ghost use Rattle.domain.specs.Tables.{users-of, attached as attachedIn, add-use
 pub fn attached(names: &[u16; 64], homes: &[u8; 64], p: u8, u: u16) -> usize
     ensures { λ r. ⌜ (r ≡ number 64 (attachedIn (users-of (now (names .entry)) (now (homes .entry))) p u)) × (r ≤ 64) ⌝ }
 {
-    let i = columns::find(names, u);
+    let i = seeking::find(names, u);
     let at = &homes[..];
     if i < at.len() {
         if at[i] == p {
@@ -25,7 +25,7 @@ pub fn attached(names: &[u16; 64], homes: &[u8; 64], p: u8, u: u16) -> usize
 pub fn add_user(names: &mut [u16; 64], homes: &mut [u8; 64], u: u16, p: u8)
     ensures { λ _. ⌜ users-of (now (names .exit)) (now (homes .exit)) ≡ add-user (users-of (now (names .entry)) (now (homes .entry))) u p ⌝ }
 {
-    let i = columns::spare(names);
+    let i = seeking::spare(names);
     if i < 64 {
         names[i] = u;
         homes[i] = p;
@@ -53,7 +53,7 @@ pub fn places_of(names: &[u16; 64], ids: &[u16]) -> u64
     let mut m: u64 = 0;
     let mut i = 0;
     while i < ids.len() {
-        let at = columns::find(names, ids[i]);
+        let at = seeking::find(names, ids[i]);
         m = masks::with_seat(m, at as u8);
         i += 1;
     }

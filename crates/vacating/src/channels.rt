@@ -66,7 +66,7 @@ fn user_gone(names: &[u16; 64], list: &[u16], c: u16) -> bool
     if !columns::member(list, c) {
         return false;
     }
-    columns::find(names, c) < all
+    seeking::find(names, c) < all
 }
 
 // What becomes of channel c; `gone` are the places of those listed.

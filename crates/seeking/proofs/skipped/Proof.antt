@@ -1,0 +1,54 @@
+-- The loop goes up, eight places at a time: x does not stand before i.
+use Prim.Native.Nat.{_≤_, _-_}
+use mathlib.Core.Path.{_≡_, refl, _∙_}
+use native.Mathlib.Omega.{arith}
+use lib.ListN.{length, drop}
+use borrow.Author.Needs.{needs}
+use Rattle.places.specs.Places.{first}
+use Rattle.seeking.proofs.skipped.Statement.{statement}
+use Rattle.seeking.proofs.skipped.Tie as tie
+
+abbrev Inv-loop : tie.InvT-loop
+Inv-loop ids x i₀ i = (i ≤ length ids) × (first 0 x ids ≡ first i x (drop i ids))
+
+abbrev μ-loop : tie.MeasureT-loop
+μ-loop ids x i₀ i = length ids - i
+
+loop-holds : tie.Need-loop-holds Inv-loop μ-loop
+loop-holds c = (search needs, refl)
+
+sub-loop : tie.Need-sub-loop Inv-loop μ-loop
+sub-loop c = search needs
+
+of-eight-requires : tie.Need-of-eight-requires Inv-loop μ-loop
+of-eight-requires c κs = omega arith
+
+returns : tie.Need-returns Inv-loop μ-loop
+returns c = search needs
+
+add-i : tie.Need-add-i Inv-loop μ-loop
+add-i c = search needs
+
+loop-less : tie.Need-loop-less Inv-loop μ-loop
+loop-less c = omega arith
+
+loop-again : tie.Need-loop-again Inv-loop μ-loop
+loop-again c = (omega arith, c .before .before .before .loop .inv .1 ∙ c .before .of-eight .ensures (c .if1 .left))
+
+returns-2 : tie.Need-returns-2 Inv-loop μ-loop
+returns-2 c = search needs
+
+pub skipped-spec : {M : Type 1} → statement M
+skipped-spec =
+    tie.close
+    (tie.spec
+    Inv-loop
+    μ-loop
+    loop-holds
+    sub-loop
+    of-eight-requires
+    returns
+    add-i
+    loop-less
+    loop-again
+    returns-2)
