@@ -1,76 +1,51 @@
 // Where an id stands in a column. A place whose id is 0 is free. A place that is nowhere is answered as the column's length.
 ghost use mathlib.Core.Path.{_≡_};
-ghost use mathlib.Core.Bool.{false};
-ghost use Prim.Native.Nat.{_+_, _-_, _<_, _≤_};
+ghost use Prim.Native.Nat.{_+_, _<_, _≤_};
 ghost use lib.ListN.{length, drop};
+ghost use Rattle.places.specs.Sets.{if_then_else_};
 ghost use Rattle.places.specs.Places.{first as firstIn, find as findIn, spare as spareIn, number};
 
-// One of the two, four, eight places from i on holds x. They are looked at together: no branch stands between them.
-fn of_two(ids: &[u16], i: usize, x: u16) -> bool
-    requires { ⌜ i + 2 ≤ length (now ids) ⌝ }
-    ensures { λ r. ⌜ (r ≡ false → firstIn i x (drop i (now (ids .entry))) ≡ firstIn (i + 2) x (drop (i + 2) (now (ids .entry)))) ⌝ }
+// So many places are left, where an id stands here; else none. A choice, and no branch.
+fn left(here: bool, n: u16) -> u16
+    ensures { λ r. ⌜ r ≡ (if here then n else 0) ⌝ }
 {
-    (ids[i] == x) | (ids[i + 1] == x)
+    if here { n } else { 0 }
 }
 
-fn of_four(ids: &[u16], i: usize, x: u16) -> bool
-    requires { ⌜ i + 4 ≤ length (now ids) ⌝ }
-    ensures { λ r. ⌜ (r ≡ false → firstIn i x (drop i (now (ids .entry))) ≡ firstIn (i + 4) x (drop (i + 4) (now (ids .entry)))) ⌝ }
+fn greater(a: u16, b: u16) -> u16
+    ensures { λ r. ⌜ (a < b → r ≡ b) × (b ≤ a → r ≡ a) ⌝ }
 {
-    of_two(ids, i, x) | of_two(ids, i + 2, x)
+    if a < b { b } else { a }
 }
 
-fn of_eight(ids: &[u16], i: usize, x: u16) -> bool
-    requires { ⌜ i + 8 ≤ length (now ids) ⌝ }
-    ensures { λ r. ⌜ (r ≡ false → firstIn i x (drop i (now (ids .entry))) ≡ firstIn (i + 8) x (drop (i + 8) (now (ids .entry)))) ⌝ }
+// How many of the 64 places from `from` on stand before x; all of them, where none holds it. All are looked at, eight together, and no branch stands
+// between them: in a conference nobody can foresee where an id stands.
+fn among(ids: &[u16], from: usize, x: u16) -> usize
+    requires { ⌜ from + 64 ≤ length (now ids) ⌝ }
+    ensures { λ r. ⌜ (r ≤ 64) × (firstIn from x (drop from (now (ids .entry))) ≡ firstIn (from + r) x (drop (from + r) (now (ids .entry)))) ⌝ }
 {
-    of_four(ids, i, x) | of_four(ids, i + 4, x)
+    let mut most: u16 = 0;
+    let mut k: usize = 0;
+    while k < 64 {
+        most = greater(left(ids[from + k] == x, (64 - k) as u16), most);
+        k += 1;
+    }
+    64 - most as usize
 }
 
-// A place that x does not stand before, found eight places at a time.
+// A place that x does not stand before, found 64 places at a time.
 fn skipped(ids: &[u16], x: u16) -> usize
     ensures { λ r. ⌜ (r ≤ length (now (ids .entry))) × (firstIn 0 x (now (ids .entry)) ≡ firstIn r x (drop r (now (ids .entry)))) ⌝ }
 {
     let mut i = 0;
-    while 8 <= ids.len() - i {
-        if of_eight(ids, i, x) {
-            return i;
+    while 64 <= ids.len() - i {
+        let k = among(ids, i, x);
+        if k < 64 {
+            return i + k;
         }
-        i += 8;
+        i += 64;
     }
     i
-}
-
-// Four, two, one places from i on are passed where none of them holds x: a choice for the compiler, and no branch.
-fn past_four(ids: &[u16], i: usize, x: u16) -> usize
-    requires { ⌜ i + 4 ≤ length (now ids) ⌝ }
-    ensures { λ r. ⌜ (r ≤ i + 4) × (firstIn i x (drop i (now (ids .entry))) ≡ firstIn r x (drop r (now (ids .entry)))) ⌝ }
-{
-    if of_four(ids, i, x) { i } else { i + 4 }
-}
-
-fn past_two(ids: &[u16], i: usize, x: u16) -> usize
-    requires { ⌜ i + 2 ≤ length (now ids) ⌝ }
-    ensures { λ r. ⌜ (r ≤ i + 2) × (firstIn i x (drop i (now (ids .entry))) ≡ firstIn r x (drop r (now (ids .entry)))) ⌝ }
-{
-    if of_two(ids, i, x) { i } else { i + 2 }
-}
-
-fn past_one(ids: &[u16], i: usize, x: u16) -> usize
-    requires { ⌜ i + 1 ≤ length (now ids) ⌝ }
-    ensures { λ r. ⌜ (r ≤ i + 1) × (firstIn i x (drop i (now (ids .entry))) ≡ firstIn r x (drop r (now (ids .entry)))) ⌝ }
-{
-    if ids[i] == x { i } else { i + 1 }
-}
-
-// The same among eight places.
-fn near(ids: &[u16], i: usize, x: u16) -> usize
-    requires { ⌜ i + 8 ≤ length (now ids) ⌝ }
-    ensures { λ r. ⌜ (r ≤ length (now (ids .entry))) × (firstIn i x (drop i (now (ids .entry))) ≡ firstIn r x (drop r (now (ids .entry)))) ⌝ }
-{
-    let a = past_four(ids, i, x);
-    let b = past_two(ids, a, x);
-    past_one(ids, b, x)
 }
 
 // x stands at the first place: most often it does, in a small conference. This only chooses a way.
@@ -88,11 +63,7 @@ fn passed(ids: &[u16], x: u16) -> usize
     if at_start(ids, x) {
         return 0;
     }
-    let i = skipped(ids, x);
-    if 8 <= ids.len() - i {
-        return near(ids, i, x);
-    }
-    i
+    skipped(ids, x)
 }
 
 // The first place that holds x. The ids in use stand low, so going up ends soon.

@@ -1,4 +1,4 @@
--- The loop goes up, eight places at a time: x does not stand before i.
+-- The loop goes up, 64 places at a time: x does not stand before i.
 use Prim.Native.Nat.{_≤_, _-_}
 use mathlib.Core.Path.{_≡_, refl, _∙_}
 use native.Mathlib.Omega.{arith}
@@ -20,11 +20,14 @@ loop-holds c = (search needs, refl)
 sub-loop : tie.Need-sub-loop Inv-loop μ-loop
 sub-loop c = search needs
 
-of-eight-requires : tie.Need-of-eight-requires Inv-loop μ-loop
-of-eight-requires c κs = omega arith
+among-requires : tie.Need-among-requires Inv-loop μ-loop
+among-requires c κs = omega arith
+
+add-result : tie.Need-add-result Inv-loop μ-loop
+add-result c = search needs
 
 returns : tie.Need-returns Inv-loop μ-loop
-returns c = search needs
+returns c = (search needs, c .before .before .before .loop .inv .1 ∙ c .before .among .ensures .1)
 
 add-i : tie.Need-add-i Inv-loop μ-loop
 add-i c = search needs
@@ -33,7 +36,9 @@ loop-less : tie.Need-loop-less Inv-loop μ-loop
 loop-less c = omega arith
 
 loop-again : tie.Need-loop-again Inv-loop μ-loop
-loop-again c = (omega arith, c .before .before .before .loop .inv .1 ∙ c .before .of-eight .ensures (c .if1 .left))
+loop-again c =
+    let e : c .before .among .result ≡ 64 = omega arith in
+    (omega arith, c .before .before .before .loop .inv .1 ∙ rw e at (c .before .among .ensures .1))
 
 returns-2 : tie.Need-returns-2 Inv-loop μ-loop
 returns-2 c = search needs
@@ -46,7 +51,8 @@ skipped-spec =
     μ-loop
     loop-holds
     sub-loop
-    of-eight-requires
+    among-requires
+    add-result
     returns
     add-i
     loop-less

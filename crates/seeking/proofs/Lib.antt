@@ -1,0 +1,2 @@
+-- The law of the loop over the places that are looked at together.
+pub mod Looked
