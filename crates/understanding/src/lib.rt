@@ -47,11 +47,11 @@ fn understand_all(octets: &[u8], listed: &mut [u16; 64]) -> Understood
     if 42 < number {
         return refused(Reply::BadEncoding);
     }
-    let line = messages::entry_of(number);
-    if !messages::goes_up(line) {
+    let way = messages::way_of(number);
+    if !messages::goes_up(way) {
         return refused(Reply::MayNotGoUp);
     }
-    if !messages::is_served(line) {
+    if !messages::is_served(way) {
         return refused(Reply::NotServed);
     }
     let h = reader::read_into(octets, listed);

@@ -1,5 +1,5 @@
 use Rattle.messages.specs.Columns.{fieldOf}
-use Rattle.messages.proofs.ColumnLaws.{kind-rest, seventh}
+use Rattle.messages.proofs.ColumnLaws.{kind-rest, none-of}
 use borrow.Author.Needs.{needs}
 use Rattle.reader.proofs.take_field.Statement.{statement}
 use Rattle.reader.proofs.take_field.Tie as tie
@@ -58,7 +58,7 @@ returns-7 c = rw (c .before .match .keys7) (c .take-id3 .ensures)
 
 returns-8 : tie.Need-returns-8
 returns-8 c =
-    rw (kind-rest (c .before .before .before .args .kind) (seventh (c .before .match .rest))) (c .take-number .ensures)
+    rw (kind-rest (c .before .before .before .args .kind) (none-of 7 (c .before .match .rest))) (c .take-number .ensures)
 
 pub take-field-spec : {M : Type 1} → statement M
 take-field-spec =

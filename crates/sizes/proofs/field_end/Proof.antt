@@ -1,4 +1,4 @@
-use Rattle.messages.proofs.ColumnLaws.{kind-rest, seventh}
+use Rattle.messages.proofs.ColumnLaws.{kind-rest, none-of}
 use Rattle.messages.specs.Columns.{fieldOf}
 use borrow.Author.Needs.{needs}
 use Rattle.sizes.proofs.field_end.Statement.{statement}
@@ -60,7 +60,7 @@ returns-8 : tie.Need-returns-8
 returns-8 c =
     let r = c .before .match .rest in
     let k = c .before .before .args .kind in
-    rw (kind-rest k (seventh r))
+    rw (kind-rest k (none-of 7 r))
     (c .number-end .ensures)
 
 pub field-end-spec : {M : Type 1} → statement M

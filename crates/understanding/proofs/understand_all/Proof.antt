@@ -35,8 +35,8 @@ returns-3 : tie.Need-returns-3
 unfolding number-in
 returns-3 c = refuses-asks (c .before .before .before .before .before .before .args .octets .now) 5 _ _ (unknown-understood (c .before .before .before .before .before .before .args .octets .now) (search needs) (search needs) (c .before .if3 .taken)) (ap replyNumber (c .refused3 .ensures)) refl
 
-entry-of-requires : tie.Need-entry-of-requires
-entry-of-requires c κs = search needs
+way-of-requires : tie.Need-way-of-requires
+way-of-requires c κs = search needs
 
 goes-up-requires : tie.Need-goes-up-requires
 goes-up-requires c κs = search needs
@@ -46,7 +46,7 @@ refused-requires-4 c κs = search needs
 
 returns-4 : tie.Need-returns-4
 unfolding number-in
-returns-4 c = refuses-asks (c .before .before .before .before .before .before .before .before .before .args .octets .now) 6 _ _ (down-understood (c .before .before .before .before .before .before .before .before .before .args .octets .now) (search needs) (search needs) (c .before .before .before .before .if3 .left) (sym (c .before .before .goes-up .ensures ∙ up-at _ _ (c .before .before .before .entry-of .ensures)) ∙ not-true _ (c .before .if4 .taken))) (ap replyNumber (c .refused4 .ensures)) refl
+returns-4 c = refuses-asks (c .before .before .before .before .before .before .before .before .before .args .octets .now) 6 _ _ (down-understood (c .before .before .before .before .before .before .before .before .before .args .octets .now) (search needs) (search needs) (c .before .before .before .before .if3 .left) (sym (c .before .before .goes-up .ensures ∙ up-at _ _ (c .before .before .before .way-of .ensures)) ∙ not-true _ (c .before .if4 .taken))) (ap replyNumber (c .refused4 .ensures)) refl
 
 is-served-requires : tie.Need-is-served-requires
 is-served-requires c κs = search needs
@@ -56,7 +56,7 @@ refused-requires-5 c κs = search needs
 
 returns-5 : tie.Need-returns-5
 unfolding number-in
-returns-5 c = refuses-asks (c .before .before .before .before .before .before .before .before .before .before .before .args .octets .now) 7 _ _ (unserved-understood (c .before .before .before .before .before .before .before .before .before .before .before .args .octets .now) (search needs) (search needs) (c .before .before .before .before .before .before .if3 .left) (sym (c .before .before .before .before .goes-up .ensures ∙ up-at _ _ (c .before .before .before .before .before .entry-of .ensures)) ∙ not-false _ (c .before .before .before .if4 .left)) (sym (c .before .before .is-served .ensures ∙ served-at _ _ (c .before .before .before .before .before .entry-of .ensures)) ∙ not-true _ (c .before .if5 .taken))) (ap replyNumber (c .refused5 .ensures)) refl
+returns-5 c = refuses-asks (c .before .before .before .before .before .before .before .before .before .before .before .args .octets .now) 7 _ _ (unserved-understood (c .before .before .before .before .before .before .before .before .before .before .before .args .octets .now) (search needs) (search needs) (c .before .before .before .before .before .before .if3 .left) (sym (c .before .before .before .before .goes-up .ensures ∙ up-at _ _ (c .before .before .before .before .before .way-of .ensures)) ∙ not-false _ (c .before .before .before .if4 .left)) (sym (c .before .before .is-served .ensures ∙ served-at _ _ (c .before .before .before .before .before .way-of .ensures)) ∙ not-true _ (c .before .if5 .taken))) (ap replyNumber (c .refused5 .ensures)) refl
 
 read-into-requires : tie.Need-read-into-requires
 read-into-requires c κs = search needs
@@ -69,8 +69,8 @@ unfolding number-in
 returns-6 c =
     let d = c .before .before .before in
     let os = d .before .before .before .before .before .before .before .before .before .before .before .args .octets .now in
-    let s = sym (d .before .before .is-served .ensures ∙ served-at _ _ (d .before .before .before .before .before .entry-of .ensures)) ∙ not-false _ (d .before .if5 .left) in
-    let up = sym (d .before .before .before .before .goes-up .ensures ∙ up-at _ _ (d .before .before .before .before .before .entry-of .ensures)) ∙ not-false _ (d .before .before .before .if4 .left) in
+    let s = sym (d .before .before .is-served .ensures ∙ served-at _ _ (d .before .before .before .before .before .way-of .ensures)) ∙ not-false _ (d .before .if5 .left) in
+    let up = sym (d .before .before .before .before .goes-up .ensures ∙ up-at _ _ (d .before .before .before .before .before .way-of .ensures)) ∙ not-false _ (d .before .before .before .if4 .left) in
     let i = read-understood os (search needs) (search needs) (d .before .before .before .before .before .before .if3 .left) up s in
     head-asks os _ _ _ (c .before .before .read-into .ensures) _ i (c .asked .ensures) (bytes-at os (λ i. omega (arith, d .before .before .before .before .before .before .before .shared-slice-known2 .given i))) (c .before .if6 .taken) s
 
@@ -85,8 +85,8 @@ unfolding number-in
 returns-7 c =
     let d = c .before .before .before .before in
     let os = d .before .before .before .before .before .before .before .before .before .before .before .args .octets .now in
-    let s = sym (d .before .before .is-served .ensures ∙ served-at _ _ (d .before .before .before .before .before .entry-of .ensures)) ∙ not-false _ (d .before .if5 .left) in
-    let up = sym (d .before .before .before .before .goes-up .ensures ∙ up-at _ _ (d .before .before .before .before .before .entry-of .ensures)) ∙ not-false _ (d .before .before .before .if4 .left) in
+    let s = sym (d .before .before .is-served .ensures ∙ served-at _ _ (d .before .before .before .before .before .way-of .ensures)) ∙ not-false _ (d .before .if5 .left) in
+    let up = sym (d .before .before .before .before .goes-up .ensures ∙ up-at _ _ (d .before .before .before .before .before .way-of .ensures)) ∙ not-false _ (d .before .before .before .if4 .left) in
     let i = read-understood os (search needs) (search needs) (d .before .before .before .before .before .before .if3 .left) up s in
     codec-asks os _ _ _ (c .before .before .before .read-into .ensures) _ i (c .before .before .if6 .left) (ap replyNumber (c .refused6 .ensures) ∙ c .before .reply-of .ensures)
 
@@ -102,7 +102,7 @@ understand-all-spec =
     cast-number
     refused-requires-3
     returns-3
-    entry-of-requires
+    way-of-requires
     goes-up-requires
     refused-requires-4
     returns-4

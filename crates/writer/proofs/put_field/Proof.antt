@@ -1,6 +1,6 @@
 use Rattle.writer.proofs.LayLaws.{lays-near}
 use Rattle.writer.proofs.FieldLaws.{code-puts, item-puts, field-near, code-asks, id-asks, number-asks}
-use Rattle.messages.proofs.ColumnLaws.{kind-rest, seventh}
+use Rattle.messages.proofs.ColumnLaws.{kind-rest, none-of}
 use Rattle.messages.specs.Columns.{fieldOf}
 use mathlib.Core.Path.{ap}
 use native.Mathlib.Omega.{arith}
@@ -61,10 +61,10 @@ add-put-number : tie.Need-add-put-number
 add-put-number c = omega (arith, field-near (c .before .before .before .pre))
 
 put-number-requires : tie.Need-put-number-requires
-put-number-requires c κs = number-asks (c .before .before .before .pre) (kind-rest (c .before .before .before .args .kind) (seventh (c .before .match .rest)))
+put-number-requires c κs = number-asks (c .before .before .before .pre) (kind-rest (c .before .before .before .args .kind) (none-of 7 (c .before .match .rest)))
 
 mul-result-4 : tie.Need-mul-result-4
-mul-result-4 c = omega (arith, lays-near (c .before .before .put-number .ensures) _ (number-asks (c .before .before .before .before .before .before .pre) (kind-rest (c .before .before .before .before .before .before .args .kind) (seventh (c .before .before .before .before .match .rest)))), c .before .before .before .before .before .before .pre .short)
+mul-result-4 c = omega (arith, lays-near (c .before .before .put-number .ensures) _ (number-asks (c .before .before .before .before .before .before .pre) (kind-rest (c .before .before .before .before .before .before .args .kind) (none-of 7 (c .before .before .before .before .match .rest)))), c .before .before .before .before .before .before .pre .short)
 
 same-length : tie.Need-same-length
 same-length c = search needs
@@ -119,7 +119,7 @@ same-length-8 : tie.Need-same-length-8
 same-length-8 c = search needs
 
 returns-8 : tie.Need-returns-8
-returns-8 c = rw (kind-rest (c .before .before .before .before .before .before .args .kind) (seventh (c .before .before .before .before .match .rest))) (item-puts _ (c .before .before .put-number .ensures) (omega (arith, number-asks (c .before .before .before .before .before .before .pre) (kind-rest (c .before .before .before .before .before .before .args .kind) (seventh (c .before .before .before .before .match .rest))))))
+returns-8 c = rw (kind-rest (c .before .before .before .before .before .before .args .kind) (none-of 7 (c .before .before .before .before .match .rest))) (item-puts _ (c .before .before .put-number .ensures) (omega (arith, number-asks (c .before .before .before .before .before .before .pre) (kind-rest (c .before .before .before .before .before .before .args .kind) (none-of 7 (c .before .before .before .before .match .rest))))))
 
 pub put-field-spec : {M : Type 1} → statement M
 put-field-spec =
