@@ -212,31 +212,18 @@ module _ {us : Users} {k : Pick} {xs taken spots shares firsts : List ℕ} {mask
         housed = housed-more (t .housed) x v n (is ∙ sym (home-at us x i here)) end a b d;
       }
 
--- a turn of the loop: the id at place i of the list; the first n of `kept` are those taken
-module _ {us : Users} {k : Pick} (list : List ℕ) (i : ℕ) (kept : List ℕ) {spots shares firsts : List ℕ} (n : ℕ) {mask : ℕ}
-    (t : Takes us k (take i list) (take n kept) spots shares firsts mask) (low : i < length list) where
-  abbrev x : ℕ
-  x = getD list i 0
+-- the same where those taken are the first n of a list, and the new one is stored behind them
+pub store-new : {us : Users} {k : Pick} {xs : List ℕ} (list : List ℕ) (n : ℕ) {spots shares firsts : List ℕ} {mask : ℕ} → Takes us k xs (take n list) spots shares firsts mask
+    → (x j : ℕ) → find (us .ids) x ≡ At j → j < 64 → counted k j ≡ true → has mask j ≡ false → n < length list → n < length spots → length shares ≡ 16 → length firsts ≡ 16 → (v : ℕ) → v ≡ link us j
+    → (shares′ firsts′ : List ℕ) (mask′ : ℕ) → shares′ ≡ set shares v (getD shares v 0 + 1) → firsts′ ≡ set firsts v (leads (getD shares v 0) (getD firsts v 0) n) → mask′ ≡ with seats mask j
+    → Takes us k (xs ++ x ∷ []) (take (n + 1) (set list n x)) (set spots n v) shares′ firsts′ mask′
+store-new list n t x j here seat c e a b d f v is shares′ firsts′ mask′ p q r =
+    rw (one-stored list n x a, p, q, r) (take-new t x j here seat c e v n is (sym (length-take-le n list (omega arith))) b d f)
 
-  abbrev Same : Type 0
-  Same = Takes us k (take (i + 1) list) (take n kept) spots shares firsts mask
-
-  pub turn-nowhere : find (us .ids) x ≡ Nowhere → Same
-  turn-nowhere e = rw (one-more list i low) (pass-nowhere t x e)
-
-  module _ (j : ℕ) (here : find (us .ids) x ≡ At j) (seat : j < 64) where
-    pub turn-uncounted : counted k j ≡ false → Same
-    turn-uncounted e = rw (one-more list i low) (pass-uncounted t x j here seat e)
-
-    module _ (c : counted k j ≡ true) where
-      pub turn-seen : has mask j ≡ true → Same
-      turn-seen e = rw (one-more list i low) (pass-seen t x j here seat c e)
-
-      pub turn-new : has mask j ≡ false → n < length kept → n < length spots → length shares ≡ 16 → length firsts ≡ 16 → (v : ℕ) → v ≡ link us j
-          → (shares′ firsts′ : List ℕ) (mask′ : ℕ) → shares′ ≡ set shares v (getD shares v 0 + 1) → firsts′ ≡ set firsts v (leads (getD shares v 0) (getD firsts v 0) n) → mask′ ≡ with seats mask j
-          → Takes us k (take (i + 1) list) (take (n + 1) (set kept n x)) (set spots n v) shares′ firsts′ mask′
-      turn-new e a b d f v is shares′ firsts′ mask′ p q r =
-          rw (one-more list i low, one-stored kept n x a, p, q, r) (take-new t x j here seat c e v n is (sym (length-take-le n kept (omega arith))) b d f)
+-- the id passed is the next of a list
+pub next-passed : {us : Users} {k : Pick} (list : List ℕ) (i x : ℕ) {taken spots shares firsts : List ℕ} {mask : ℕ} → i < length list → x ≡ getD list i 0
+    → Takes us k (take i list ++ x ∷ []) taken spots shares firsts mask → Takes us k (take (i + 1) list) taken spots shares firsts mask
+next-passed list i x low e t = rw (one-more list i low, sym e) t
 
 -- how many users of the list a connection has is no more than they are
 pub share-le : {us : Users} {ids spots shares firsts : List ℕ} → Housed us ids spots shares firsts → (q : ℕ) → q < 16 → getD shares q 0 ≤ length ids

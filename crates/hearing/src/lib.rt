@@ -1,7 +1,7 @@
 // A list of users: who of them counts, and what each connection hears of its own. Records are sent whole or not at all.
 ghost use mathlib.Core.Path.{_≡_};
 ghost use mathlib.Core.Bool.{true, false};
-ghost use mathlib.Core.List.{List, [], _∷_};
+ghost use mathlib.Core.List.{List, [], _∷_, _++_};
 ghost use Prim.Native.Nat.{ℕ, _+_, _≤_, _<_};
 ghost use lib.Dec.{eqb};
 ghost use lib.ListN.{length, take, getD, set, replicate};
@@ -57,23 +57,23 @@ fn add_share(shares: &mut [u8], firsts: &mut [u8], q: u8, n: u8)
     }
 }
 
-// The id at place i of a list, where its user is found, counts and is not taken yet: it is kept, its connection beside it.
+// The id at place i of a list, where its user is found, counts and is not taken yet: it is stored behind those taken, its connection beside it.
+// What stands after place i is as it was.
 fn take_one(
     names: &[u16; 64],
     homes: &[u8; 64],
     k: Pick,
-    list: &[u16],
+    list: &mut [u16; 64],
     i: usize,
-    kept: &mut [u16],
     spots: &mut [u8],
     shares: &mut [u8],
     firsts: &mut [u8],
     t: Taken,
 ) -> Taken
-    requires { ⌜ (i < length (now list)) × (i < 64) × (t .count ≤ i) × (64 ≤ length (now kept)) × (64 ≤ length (now spots)) × (length (now shares) ≡ 16) × (length (now firsts) ≡ 16)
-        × Takes (users-of (now names) (now homes)) k (take i (now list)) (take (t .count) (now kept)) (now spots) (now shares) (now firsts) (t .seats) ⌝ }
-    ensures { λ r. ⌜ Takes (users-of (now (names .entry)) (now (homes .entry))) k (take (i + 1) (now (list .entry))) (take (r .count) (now (kept .exit))) (now (spots .exit)) (now (shares .exit)) (now (firsts .exit)) (r .seats)
-        × (r .count ≤ i + 1) ⌝ }
+    requires { ⌜ (i < 64) × (t .count ≤ i) × (length (now list) ≡ 64) × (64 ≤ length (now spots)) × (length (now shares) ≡ 16) × (length (now firsts) ≡ 16) × ((q : ℕ) → q < 16 → getD (now shares) q 0 ≤ 64) ⌝ }
+    ensures { λ r. ⌜ ((passed : List ℕ) → Takes (users-of (now (names .entry)) (now (homes .entry))) k passed (take (t .count) (now (list .entry))) (now (spots .entry)) (now (shares .entry)) (now (firsts .entry)) (t .seats)
+        → Takes (users-of (now (names .entry)) (now (homes .entry))) k (passed ++ getD (now (list .entry)) i 0 ∷ []) (take (r .count) (now (list .exit))) (now (spots .exit)) (now (shares .exit)) (now (firsts .exit)) (r .seats))
+        × ((j : ℕ) → i < j → getD (now (list .exit)) j 0 ≡ getD (now (list .entry)) j 0) × (length (now (list .exit)) ≡ 64) × (r .count ≤ i + 1) ⌝ }
 {
     let at = &homes[..];
     let x = list[i];
@@ -83,7 +83,7 @@ fn take_one(
         if counts(k, seat) {
             if !masks::has(t.seats, seat) {
                 let n = t.count;
-                kept[n] = x;
+                list[n] = x;
                 spots[n] = at[j];
                 add_share(shares, firsts, at[j], n as u8);
                 return Taken {
@@ -101,23 +101,21 @@ fn chosen(
     names: &[u16; 64],
     homes: &[u8; 64],
     k: Pick,
-    listed: &[u16; 64],
+    list: &mut [u16; 64],
     count: usize,
-    kept: &mut [u16],
     spots: &mut [u8],
     shares: &mut [u8],
     firsts: &mut [u8],
 ) -> Taken
-    requires { ⌜ (64 ≤ length (now kept)) × (64 ≤ length (now spots)) × (now shares ≡ replicate 16 0) × (now firsts ≡ replicate 16 0) ⌝ }
-    ensures { λ r. ⌜ Takes (users-of (now (names .entry)) (now (homes .entry))) k (take count (now (listed .entry))) (take (r .count) (now (kept .exit))) (now (spots .exit)) (now (shares .exit)) (now (firsts .exit)) (r .seats)
+    requires { ⌜ (64 ≤ length (now spots)) × (now shares ≡ replicate 16 0) × (now firsts ≡ replicate 16 0) ⌝ }
+    ensures { λ r. ⌜ Takes (users-of (now (names .entry)) (now (homes .entry))) k (take count (now (list .entry))) (take (r .count) (now (list .exit))) (now (spots .exit)) (now (shares .exit)) (now (firsts .exit)) (r .seats)
         × (r .count ≤ 64) ⌝ }
 {
-    let all = &listed[..];
-    let m = columns::at_most(count, 64);
+    let m = columns::at_most(count, list[..].len());
     let mut t = Taken { count: 0, seats: 0 };
     let mut i = 0;
     while i < m {
-        t = take_one(names, homes, k, all, i, kept, spots, shares, firsts, t);
+        t = take_one(names, homes, k, list, i, spots, shares, firsts, t);
         i += 1;
     }
     t
@@ -272,20 +270,19 @@ pub struct Told {
     pub seats: u64,
 }
 
-// Those picked of the first `count` ids are told, each connection its own.
+// Those picked of the first `count` ids are told, each connection its own. They are kept in the list itself.
 pub fn tell_chosen(
     out: &mut [u8],
     names: &[u16; 64],
     homes: &[u8; 64],
     k: Pick,
     s: Say,
-    listed: &[u16; 64],
+    list: &mut [u16; 64],
     count: usize,
 ) -> Told
-    ensures { λ r. ⌜ (answered {A = Unit {0}} (r .answer) tt (now (out .exit)) ≡ settle tt (tells (users-of (now (names .entry)) (now (homes .entry))) s (sieved (users-of (now (names .entry)) (now (homes .entry))) k (take count (now (listed .entry)))) tt) (now (out .entry)))
-        × (r .seats ≡ placesOf (users-of (now (names .entry)) (now (homes .entry))) (sieved (users-of (now (names .entry)) (now (homes .entry))) k (take count (now (listed .entry))))) ⌝ }
+    ensures { λ r. ⌜ (answered {A = Unit {0}} (r .answer) tt (now (out .exit)) ≡ settle tt (tells (users-of (now (names .entry)) (now (homes .entry))) s (sieved (users-of (now (names .entry)) (now (homes .entry))) k (take count (now (list .entry)))) tt) (now (out .entry)))
+        × (r .seats ≡ placesOf (users-of (now (names .entry)) (now (homes .entry))) (sieved (users-of (now (names .entry)) (now (homes .entry))) k (take count (now (list .entry))))) ⌝ }
 {
-    let mut kept = [0u16; 64];
     let mut spots = [16u8; 64];
     let mut shares = [0u8; 16];
     let mut firsts = [0u8; 16];
@@ -293,9 +290,8 @@ pub fn tell_chosen(
         names,
         homes,
         k,
-        listed,
+        list,
         count,
-        &mut kept,
         &mut spots,
         &mut shares,
         &mut firsts,
@@ -310,7 +306,8 @@ pub fn tell_chosen(
             seats: t.seats,
         };
     }
-    let a = tell_own(out, &spots, &shares, &firsts, s, &kept[..n]);
+    let taken = &list[..];
+    let a = tell_own(out, &spots, &shares, &firsts, s, &taken[..n]);
     Told {
         answer: a,
         seats: t.seats,

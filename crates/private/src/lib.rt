@@ -199,7 +199,7 @@ fn change(
     marks: &mut [u16; 128],
     j: usize,
     s: Say,
-    listed: &[u16; 64],
+    listed: &mut [u16; 64],
     count: usize,
     out: &mut [u8],
 ) -> Answer
@@ -231,7 +231,7 @@ pub fn admit(
     p: u8,
     u: u16,
     c: u16,
-    listed: &[u16; 64],
+    listed: &mut [u16; 64],
     count: usize,
     out: &mut [u8],
 ) -> Answer
@@ -273,7 +273,7 @@ pub fn expel(
     p: u8,
     u: u16,
     c: u16,
-    listed: &[u16; 64],
+    listed: &mut [u16; 64],
     count: usize,
     out: &mut [u8],
 ) -> Answer
@@ -317,7 +317,7 @@ pub fn request(
     number: u32,
     first: u16,
     second: u16,
-    listed: &[u16; 64],
+    listed: &mut [u16; 64],
     count: usize,
     out: &mut [u8],
 ) -> Answer

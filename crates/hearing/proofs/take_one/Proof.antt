@@ -1,13 +1,12 @@
--- Where the id is found, counts and is new it is taken.
-use mathlib.Core.Path.{sym, _∙_}
-use native.Mathlib.Nat.{le-trans}
+-- Where the id is found, counts and is new it is taken; it goes to a place that is passed.
+use mathlib.Core.Path.{refl, sym, _∙_}
 use native.Mathlib.Omega.{arith}
+use lib.Seq.{getD-set-other}
 use borrow.Author.Tests.{not-true, not-false}
 use Rattle.places.proofs.Answers.{find-at, find-nowhere}
 use Rattle.places.proofs.Rows.{getD-any}
 use Rattle.domain.specs.Tables.{link}
-use Rattle.hearing.proofs.Sieving.{turn-nowhere, turn-uncounted, turn-seen, turn-new, share-le}
-use Rattle.hearing.proofs.Hearing.{take-within}
+use Rattle.hearing.proofs.Sieving.{pass-nowhere, pass-uncounted, pass-seen, store-new}
 use borrow.Author.Needs.{needs}
 use Rattle.hearing.proofs.take_one.Statement.{statement}
 use Rattle.hearing.proofs.take_one.Tie as tie
@@ -15,8 +14,8 @@ use Rattle.hearing.proofs.take_one.Tie as tie
 mul-x : tie.Need-mul-x
 mul-x c = search needs
 
-shared-slice-read-x : tie.Need-shared-slice-read-x
-shared-slice-read-x c = search needs
+element-copy-out-x : tie.Need-element-copy-out-x
+element-copy-out-x c = search needs
 
 find-requires : tie.Need-find-requires
 find-requires c κs = search needs
@@ -30,11 +29,11 @@ counts-requires c κs = search needs
 has-requires : tie.Need-has-requires
 has-requires c κs = search needs
 
-mul-kept : tie.Need-mul-kept
-mul-kept c = search needs
+mul-list : tie.Need-mul-list
+mul-list c = search needs
 
-slice-write-kept : tie.Need-slice-write-kept
-slice-write-kept c = search needs
+element-write-list : tie.Need-element-write-list
+element-write-list c = search needs
 
 shared-slice-read-spots : tie.Need-shared-slice-read-spots
 shared-slice-read-spots c = search needs
@@ -49,9 +48,7 @@ cast-add-share : tie.Need-cast-add-share
 cast-add-share c = search needs
 
 add-share-requires : tie.Need-add-share-requires
-add-share-requires c κs = let a = c .before .before .before .before .before .before .before .before .before .before .before .before .before .before .before .before .before .before .args in
-    let h = c .before .before .before .before .before .before .before .before .before .before .before .before .before .before .before .before .before .before .pre in
-    (search needs, search needs, λ l. le-trans (share-le (h .7 .housed) _ l) (take-within (a .t .count) (a .kept .now) 64 (omega arith)))
+add-share-requires c κs = (search needs, search needs, c .before .before .before .before .before .before .before .before .before .before .before .before .before .before .before .before .pre .6 _)
 
 add-t26 : tie.Need-add-t26
 add-t26 c = search needs
@@ -68,46 +65,44 @@ same-length-2 c = search needs
 same-length-3 : tie.Need-same-length-3
 same-length-3 c = search needs
 
-same-length-4 : tie.Need-same-length-4
-same-length-4 c = search needs
-
 returns : tie.Need-returns
 unfolding link
-returns c = let a = c .before .before .before .before .before .before .before .before .before .before .before .before .before .before .before .before .before .before .before .before .before .before .before .before .args in
-    let h = c .before .before .before .before .before .before .before .before .before .before .before .before .before .before .before .before .before .before .before .before .before .before .before .before .pre in
-    let r = c .before .before .before .before .before .before .before .before .before .before .before .before .before .before .before .find in
-    (turn-new (a .list .now) (a .i) (a .kept .now) (a .t .count) (h .7) (h .0) (r .result) (find-at (a .names .now) _ (r .result) (r .ensures) (search needs)) (omega arith) (sym (c .before .before .before .before .before .before .before .before .before .before .before .before .before .counts .ensures) ∙ c .before .before .before .before .before .before .before .before .before .before .before .before .if2 .taken) (sym (c .before .before .before .before .before .before .before .before .before .before .before .has .ensures) ∙ not-true _ (c .before .before .before .before .before .before .before .before .before .before .if3 .taken)) (omega arith) (omega arith) (h .5) (h .6) _ (getD-any (a .homes .now) (r .result) 0 16 (search needs)) _ _ _ (c .before .before .before .before .before .add-share .ensures .0) (c .before .before .before .before .before .add-share .ensures .1) (c .with-seat .ensures), search needs)
+returns c = let a = c .before .before .before .before .before .before .before .before .before .before .before .before .before .before .before .before .before .before .before .before .before .before .args in
+    let h = c .before .before .before .before .before .before .before .before .before .before .before .before .before .before .before .before .before .before .before .before .before .before .pre in
+    let r = c .before .before .before .before .before .before .before .before .before .before .before .before .before .before .before .find in (
+      λ passed t. store-new (a .list .now) (a .t .count) t _ (r .result) (find-at (a .names .now) _ (r .result) (r .ensures) (search needs)) (omega arith) (sym (c .before .before .before .before .before .before .before .before .before .before .before .before .before .counts .ensures) ∙ c .before .before .before .before .before .before .before .before .before .before .before .before .if2 .taken) (sym (c .before .before .before .before .before .before .before .before .before .before .before .has .ensures) ∙ not-true _ (c .before .before .before .before .before .before .before .before .before .before .if3 .taken)) (search needs) (omega arith) (h .4) (h .5) _ (getD-any (a .homes .now) (r .result) 0 16 (search needs)) _ _ _ (c .before .before .before .before .before .add-share .ensures .0) (c .before .before .before .before .before .add-share .ensures .1) (c .with-seat .ensures),
+      λ j l. getD-set-other (a .list .now) (a .t .count) j _ 0 (λ e. omega arith),
+      search needs,
+      search needs,
+    )
 
 returns-2 : tie.Need-returns-2
-returns-2 c = let a = c .before .before .before .before .before .before .before .before .before .before .before .before .before .before .args in
-    let h = c .before .before .before .before .before .before .before .before .before .before .before .before .before .before .pre in
+returns-2 c = let a = c .before .before .before .before .before .before .before .before .before .before .before .before .args in
     let r = c .before .before .before .before .before .find in
-    (turn-seen (a .list .now) (a .i) (a .kept .now) (a .t .count) (h .7) (h .0) (r .result) (find-at (a .names .now) _ (r .result) (r .ensures) (search needs)) (omega arith) (sym (c .before .before .before .counts .ensures) ∙ c .before .before .if2 .taken) (sym (c .before .has .ensures) ∙ not-false _ (c .if3 .left)), search needs)
+    (λ passed t. pass-seen t _ (r .result) (find-at (a .names .now) _ (r .result) (r .ensures) (search needs)) (omega arith) (sym (c .before .before .before .counts .ensures) ∙ c .before .before .if2 .taken) (sym (c .before .has .ensures) ∙ not-false _ (c .if3 .left)), λ j l. refl, search needs, search needs)
 
 returns-3 : tie.Need-returns-3
-returns-3 c = let a = c .before .before .before .before .before .before .before .before .before .before .before .before .args in
-    let h = c .before .before .before .before .before .before .before .before .before .before .before .before .pre in
+returns-3 c = let a = c .before .before .before .before .before .before .before .before .before .before .args in
     let r = c .before .before .before .find in
-    (turn-uncounted (a .list .now) (a .i) (a .kept .now) (a .t .count) (h .7) (h .0) (r .result) (find-at (a .names .now) _ (r .result) (r .ensures) (search needs)) (omega arith) (sym (c .before .counts .ensures) ∙ c .if2 .left), search needs)
+    (λ passed t. pass-uncounted t _ (r .result) (find-at (a .names .now) _ (r .result) (r .ensures) (search needs)) (omega arith) (sym (c .before .counts .ensures) ∙ c .if2 .left), λ j l. refl, search needs, search needs)
 
 returns-4 : tie.Need-returns-4
-returns-4 c = let a = c .before .before .before .before .before .before .before .before .before .before .args in
-    let h = c .before .before .before .before .before .before .before .before .before .before .pre in
+returns-4 c = let a = c .before .before .before .before .before .before .before .before .args in
     let r = c .before .find in
-    (turn-nowhere (a .list .now) (a .i) (a .kept .now) (a .t .count) (h .7) (h .0) (find-nowhere (a .names .now) _ (r .result) (r .ensures) (search needs)), search needs)
+    (λ passed t. pass-nowhere t _ (find-nowhere (a .names .now) _ (r .result) (r .ensures) (search needs)), λ j l. refl, search needs, search needs)
 
 pub take-one-spec : {M : Type 1} → statement M
 take-one-spec =
     tie.close
     (tie.spec
     mul-x
-    shared-slice-read-x
+    element-copy-out-x
     find-requires
     cast-seat
     counts-requires
     has-requires
-    mul-kept
-    slice-write-kept
+    mul-list
+    element-write-list
     shared-slice-read-spots
     slice-write-spots
     shared-slice-read-add-share
@@ -118,7 +113,6 @@ take-one-spec =
     same-length
     same-length-2
     same-length-3
-    same-length-4
     returns
     returns-2
     returns-3

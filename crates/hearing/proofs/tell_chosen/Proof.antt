@@ -1,4 +1,3 @@
-use mathlib.Core.Path.{refl}
 use Rattle.places.proofs.Firsts.{take-count}
 use Rattle.hearing.proofs.Hearing.{take-within}
 use Rattle.hearing.proofs.Telling.{mask-of, none-sieved, some-sieved, tells-nobody, tells-some}
@@ -15,16 +14,13 @@ slice-aggregate-chosen-2 c = search needs
 slice-aggregate-chosen-3 : tie.Need-slice-aggregate-chosen-3
 slice-aggregate-chosen-3 c = search needs
 
-slice-aggregate-chosen-4 : tie.Need-slice-aggregate-chosen-4
-slice-aggregate-chosen-4 c = search needs
-
 chosen-requires : tie.Need-chosen-requires
 chosen-requires c κs = search needs
 
 returns : tie.Need-returns
-returns c = let r = c .before .before .before .before .before .chosen in
-    let kept = r .last .1 .1 .1 .1 .1 .0 in
-    (tells-nobody _ _ _ _ (none-sieved kept (r .result .count) (r .ensures .0) (c .if1 .taken)), mask-of kept (r .result .count) (r .ensures .0))
+returns c = let r = c .before .before .before .before .chosen in
+    let list = r .last .1 .1 .1 .0 in
+    (tells-nobody _ _ _ _ (none-sieved list (r .result .count) (r .ensures .0) (c .if1 .taken)), mask-of list (r .result .count) (r .ensures .0))
 
 slice-aggregate-tell-own : tie.Need-slice-aggregate-tell-own
 slice-aggregate-tell-own c = search needs
@@ -35,25 +31,23 @@ slice-aggregate-tell-own-2 c = search needs
 slice-aggregate-tell-own-3 : tie.Need-slice-aggregate-tell-own-3
 slice-aggregate-tell-own-3 c = search needs
 
-array-share-prefix-kept : tie.Need-array-share-prefix-kept
-array-share-prefix-kept c = search needs
-
 slice-aggregate-tell-own-4 : tie.Need-slice-aggregate-tell-own-4
-slice-aggregate-tell-own-4 c = take-count _ _ _ refl (rw (c .before .before .before .before .before .before .before .before .before .before .chosen .kept .1 .1 .1 .1 .1 .0) (c .before .before .before .before .before .before .before .before .before .before .chosen .ensures .1))
+slice-aggregate-tell-own-4 c = let r = c .before .before .before .before .before .before .before .before .before .before .before .chosen in
+    take-count (r .last .1 .1 .1 .0) 64 (r .result .count) (search needs) (r .ensures .1)
 
 tell-own-requires : tie.Need-tell-own-requires
-tell-own-requires c κs = let r = c .before .before .before .before .before .before .before .before .before .before .chosen in
-    let few = take-within (r .result .count) (r .last .1 .1 .1 .1 .1 .0) 64 (r .ensures .1) in
-    (few, rw (r .kept .1 .1 .1 .1 .1 .1 .0) few, rw (r .kept .1 .1 .1 .1 .1 .1 .1 .0) (search needs), rw (r .kept .1 .1 .1 .1 .1 .1 .1 .1 .0) (search needs))
+tell-own-requires c κs = let r = c .before .before .before .before .before .before .before .before .before .before .before .chosen in
+    let few = take-within (r .result .count) (r .last .1 .1 .1 .0) 64 (r .ensures .1) in
+    (few, rw (r .kept .1 .1 .1 .1 .1 .0) few, rw (r .kept .1 .1 .1 .1 .1 .1 .0) (search needs), rw (r .kept .1 .1 .1 .1 .1 .1 .1 .0) (search needs))
 
 same-length : tie.Need-same-length
 same-length c = search needs
 
 returns-2 : tie.Need-returns-2
-returns-2 c = let r = c .before .before .before .before .before .before .before .before .before .before .before .before .before .chosen in
-    let kept = r .last .1 .1 .1 .1 .1 .0 in
-    let some = some-sieved kept (r .result .count) (r .ensures .0) (c .before .before .before .before .before .before .before .before .if1 .left) (rw (r .kept .1 .1 .1 .1 .1 .0) (r .ensures .1)) in
-    (tells-some _ _ _ _ some (rw (r .ensures .0 .taken-are) at (c .before .before .tell-own .ensures _ (r .ensures .0 .housed))), mask-of kept (r .result .count) (r .ensures .0))
+returns-2 c = let r = c .before .before .before .before .before .before .before .before .before .before .before .before .before .before .chosen in
+    let list = r .last .1 .1 .1 .0 in
+    let some = some-sieved list (r .result .count) (r .ensures .0) (c .before .before .before .before .before .before .before .before .before .before .if1 .left) (search needs) in
+    (tells-some _ _ _ _ some (rw (r .ensures .0 .taken-are) at (c .before .before .tell-own .ensures _ (r .ensures .0 .housed))), mask-of list (r .result .count) (r .ensures .0))
 
 pub tell-chosen-spec : {M : Type 1} → statement M
 tell-chosen-spec =
@@ -62,13 +56,11 @@ tell-chosen-spec =
     slice-aggregate-chosen
     slice-aggregate-chosen-2
     slice-aggregate-chosen-3
-    slice-aggregate-chosen-4
     chosen-requires
     returns
     slice-aggregate-tell-own
     slice-aggregate-tell-own-2
     slice-aggregate-tell-own-3
-    array-share-prefix-kept
     slice-aggregate-tell-own-4
     tell-own-requires
     same-length

@@ -22,9 +22,9 @@ same-length : tie.Need-same-length
 same-length c = search needs
 
 returns-2 : tie.Need-returns-2
-returns-2 c = let a = c .before .before .before .before .before .before .before .before .before .before .before .before .before .before .before .args in
+returns-2 c = let a = c .before .before .before .before .before .before .before .before .before .before .before .before .before .before .before .before .args in
     let cs = channels-of (a .ids .now) (a .roles .now) (a .chairs .now) (a .guests .now) (a .marks .now) in
-    c .before .before .change .ensures (a .ids .now) ∙ ap (λ (x : Effect Channels). settle cs x (a .out .now)) (expel-is (users-of (a .names .now) (a .homes .now)) cs (a .p) (a .u) (a .c) _ (a .out .now) _ (c .before .before .before .before .before .before .before .before .before .managed .ensures .0 (c .before .before .before .before .before .before .before .before .if1 .left)))
+    c .before .before .change .ensures (a .ids .now) ∙ ap (λ (x : Effect Channels). settle cs x (a .out .now)) (expel-is (users-of (a .names .now) (a .homes .now)) cs (a .p) (a .u) (a .c) _ (a .out .now) _ (c .before .before .before .before .before .before .before .before .before .before .managed .ensures .0 (c .before .before .before .before .before .before .before .before .before .if1 .left)))
 
 pub expel-spec : {M : Type 1} → statement M
 expel-spec =

@@ -39,16 +39,16 @@ same-length-3 c = search needs
 
 returns-3 : tie.Need-returns-3
 unfolding private-request act
-returns-3 c = λ m ts. let a = c .before .before .before .before .before .before .before .before .before .before .before .args in on-channels (a .limits) m _ _ ts _ (a .p) (private-request (a .number) (a .first) (a .second) (take (a .count) (a .listed .now))) _ _ (c .before .before .admit .ensures) (rw (c .before .before .before .before .before .before .before .before .before .match .keys3) refl)
+returns-3 c = λ m ts. let a = c .before .before .before .before .before .before .before .before .before .before .before .before .args in on-channels (a .limits) m _ _ ts _ (a .p) (private-request (a .number) (a .first) (a .second) (take (a .count) (a .listed .now))) _ _ (c .before .before .admit .ensures) (rw (c .before .before .before .before .before .before .before .before .before .before .match .keys3) refl)
 
 same-length-4 : tie.Need-same-length-4
 same-length-4 c = search needs
 
 returns-4 : tie.Need-returns-4
 unfolding private-request act
-returns-4 c = λ m ts. let a = c .before .before .before .before .before .before .before .before .before .before .before .args in
+returns-4 c = λ m ts. let a = c .before .before .before .before .before .before .before .before .before .before .before .before .args in
     let n = a .number in
-    let r = c .before .before .before .before .before .before .before .before .before .match .rest in
+    let r = c .before .before .before .before .before .before .before .before .before .before .match .rest in
     on-channels (a .limits) m _ _ ts _ (a .p) (private-request n (a .first) (a .second) (take (a .count) (a .listed .now))) _ _ (c .before .before .expel .ensures) (rw (ne-eqb n 17 (r .0 .0 .1), ne-eqb n 19 (r .0 .1), ne-eqb n 21 (r .1)) refl)
 
 pub request-spec : {M : Type 1} → statement M
