@@ -1,6 +1,6 @@
 -- Lists of users: those picked, each once, in their order; what is known of them grows with each. Assumes nothing.
 use mathlib.Core.Path.{_≡_, refl, sym, ap, _∙_}
-use mathlib.Core.Bool.{Bool, true, false, not, _&&_, _||_, and-false, and-true}
+use mathlib.Core.Bool.{Bool, true, false, not, _&&_}
 use mathlib.Core.List.{List, [], _∷_, _++_, append-nil}
 use Prim.Native.Nat.{ℕ, _+_, _≤_, _<_}
 use native.Mathlib.Nat.{add-zero}
@@ -10,15 +10,14 @@ use borrow.Author.Tests.{eqb-true, eqb-false, ne-eqb}
 use lib.Dec.{eqb}
 use lib.ListN.{length, getD, set, take, replicate, length-append, getD-replicate, List·getD-append}
 use lib.Seq.{length-take-le, take-suc, take-suc-set, take-all, take-append-le, getD-append-seam, getD-set-same, getD-set-other}
-use Rattle.places.specs.Sets.{if_then_else_, keep, any, member, firsts as firsts-of, once, has, with, links, seats}
+use Rattle.places.specs.Sets.{if_then_else_, keep, member, firsts as firsts-of, once, has, with, links, seats}
 use Rattle.places.specs.Places.{Place, At, Nowhere, find, found, number}
 use Rattle.places.proofs.Order.{keep-le}
 use Rattle.places.proofs.Turns.{keep-append}
-use Rattle.places.proofs.Members.{member-keep, member-once}
 use Rattle.domain.specs.Tables.{Users, link, attached}
-use Rattle.domain.specs.Channels.{places}
 use Rattle.domain.proofs.Listed.{places-has}
 use Rattle.tables.proofs.Marking.{places-none, places-more}
+use Rattle.tables.proofs.OneMore.{kept-last}
 use Rattle.hearing.specs.declared.Pick.{Pick}
 use Rattle.hearing.specs.declared.Pick.the-variants.{Attached, Admitted}
 use Rattle.hearing.specs.Sieve.{counted, picked, sieved, home, Located, owned-by, Housed, leads, Takes}
@@ -65,41 +64,9 @@ keep-last : (f : ℕ → Bool) (xs : List ℕ) (x : ℕ) → keep f (xs ++ x ∷
 unfolding keep
 keep-last f xs x = keep-append f xs (x ∷ [])
 
-swap : (a b c : Bool) → ((a || b) || c) ≡ (b || (a || c))
-swap true true c = refl
-swap true false c = refl
-swap false b c = refl
-
-firsts-last : (xs before : List ℕ) (x : ℕ) → firsts-of before (xs ++ x ∷ []) ≡ firsts-of before xs ++ (if member x before || member x xs then [] else x ∷ [])
-unfolding firsts-of member any
-firsts-last [] before x = go (member x before)
-  where
-    go : (b : Bool) → (if b then [] else x ∷ []) ≡ (if b || false then [] else x ∷ [])
-    go true = refl
-    go false = refl
-firsts-last (y ∷ xs) before x =
-    rest (member y before) _ _ _ (firsts-last xs (y ∷ before) x ∙ ap (λ (b : Bool). firsts-of (y ∷ before) xs ++ (if b then [] else x ∷ [])) (swap (eqb x y) (member x before) (member x xs)))
-  where
-    rest : (b : Bool) (l r s : List ℕ) → l ≡ r ++ s → (if b then l else y ∷ l) ≡ (if b then r else y ∷ r) ++ s
-    rest true l r s e = e
-    rest false l r s e = ap (λ (l : List ℕ). y ∷ l) e
-
-once-last : (xs : List ℕ) (x : ℕ) → once (xs ++ x ∷ []) ≡ once xs ++ (if not (member x xs) then x ∷ [] else [])
-unfolding once member any
-once-last xs x = firsts-last xs [] x ∙ ap (λ (l : List ℕ). firsts-of [] xs ++ l) (turn (member x xs))
-  where
-    turn : (b : Bool) → (if b then [] else x ∷ []) ≡ (if not b then x ∷ [] else [])
-    turn true = refl
-    turn false = refl
-
-sieved-last : (us : Users) (k : Pick) (xs : List ℕ) (x : ℕ) → sieved us k (xs ++ x ∷ []) ≡ sieved us k xs ++ (if picked us k x && not (member x xs) then x ∷ [] else [])
-unfolding sieved keep
-sieved-last us k xs x =
-    ap (keep (picked us k)) (once-last xs x) ∙ keep-append (picked us k) (once xs) (if not (member x xs) then x ∷ [] else []) ∙ ap (λ (l : List ℕ). keep (picked us k) (once xs) ++ l) (turn (member x xs))
-  where
-    turn : (b : Bool) → keep (picked us k) (if not b then x ∷ [] else []) ≡ (if picked us k x && not b then x ∷ [] else [])
-    turn true = ap (λ (c : Bool). if c then x ∷ [] else []) (sym (and-false (picked us k x)))
-    turn false = ap (λ (c : Bool). if c then x ∷ [] else []) (sym (and-true (picked us k x)))
+sieved-last : (us : Users) (k : Pick) (xs : List ℕ) (x : ℕ) → sieved us k (xs ++ x ∷ []) ≡ sieved us k xs ++ (if picked us k x && not (member x (sieved us k xs)) then x ∷ [] else [])
+unfolding sieved
+sieved-last us k xs x = kept-last (picked us k) xs x
 
 pub one-more : (l : List ℕ) (i : ℕ) → i < length l → take (i + 1) l ≡ take i l ++ getD l i 0 ∷ []
 one-more l i h = rw (add-one i) (take-suc l i 0 h)
@@ -179,7 +146,7 @@ takes-none us k spots shares firsts a b = record {
 }
 
 module _ {us : Users} {k : Pick} {xs taken spots shares firsts : List ℕ} {mask : ℕ} (t : Takes us k xs taken spots shares firsts mask) (x : ℕ) where
-  passes : (picked us k x && not (member x xs)) ≡ false → Takes us k (xs ++ x ∷ []) taken spots shares firsts mask
+  passes : (picked us k x && not (member x (sieved us k xs))) ≡ false → Takes us k (xs ++ x ∷ []) taken spots shares firsts mask
   passes e = record { taken-are = t .taken-are ∙ sym (sieved-last us k xs x ∙ rw e (append-nil (sieved us k xs))); mask-is = t .mask-is; housed = t .housed }
 
   pub pass-nowhere : find (us .ids) x ≡ Nowhere → Takes us k (xs ++ x ∷ []) taken spots shares firsts mask
@@ -194,11 +161,8 @@ module _ {us : Users} {k : Pick} {xs taken spots shares firsts : List ℕ} {mask
       yes = picked-at us x k i here ∙ c
 
       -- a place has one id
-      seen : has mask i ≡ member x xs
-      unfolding sieved
-      seen =
-          ap (λ (m : ℕ). has m i) (t .mask-is) ∙ places-has us x i here low taken ∙ ap (member x) (t .taken-are)
-          ∙ member-keep (picked us k) x (once xs) ∙ ap (λ (b : Bool). b && member x (once xs)) yes ∙ member-once x xs
+      seen : has mask i ≡ member x (sieved us k xs)
+      seen = ap (λ (m : ℕ). has m i) (t .mask-is) ∙ places-has us x i here low taken ∙ ap (member x) (t .taken-are)
 
       pub pass-seen : has mask i ≡ true → Takes us k (xs ++ x ∷ []) taken spots shares firsts mask
       pass-seen e = passes (rw (yes, sym seen ∙ e))

@@ -1,1 +1,5 @@
+-- those listed
 pub mod LeaverLaws
+-- the two loops that list them
+pub mod Picking
+pub mod Gathering

@@ -1,22 +1,28 @@
--- A list of ids in an array: the first n of it.
-use Prim.Native.Nat.{ℕ, _+_, _≤_}
+-- Those who leave: a list of their ids in an array, and their places.
+use Prim.Native.Nat.{ℕ, _+_, _≤_, _<_}
 use mathlib.Core.Path.{_≡_}
+use mathlib.Core.Bool.{not, _&&_}
 use mathlib.Core.List.{List, [], _∷_, _++_}
 use lib.ListN.{length, getD, take}
 use Rattle.places.specs.Sets.{if_then_else_, member}
+use Rattle.places.specs.Places.{found}
+use Rattle.domain.specs.Tables.{Users, attached}
+use Rattle.domain.specs.Channels.{places}
+use Rattle.leavers.specs.declared.Leavers.{Leavers}
 
--- the first n are `ids`
-pub record Holds (xs : List ℕ) (n : ℕ) (ids : List ℕ) : Type 0 where
-  pub held : take n xs ≡ ids
-  pub few : n ≤ 64
-  pub inside : n ≤ length xs
+-- the first ids of `list` are `ids`, as many as there are, and the mask has the places of their users
+pub record Leaves (us : Users) (ids list : List ℕ) (t : Leavers) : Type 0 where
+  pub held : take (t .count) list ≡ ids
+  pub few : t .count ≤ 64
+  pub inside : t .count ≤ length list
+  pub seated : t .seats ≡ places us ids
 
--- behind the first n of `xs` come `more`, at most one, which gives the first r of `ys`
-pub record Grows (xs : List ℕ) (n : ℕ) (more ys : List ℕ) (r : ℕ) : Type 0 where
-  pub held : take r ys ≡ take n xs ++ more
-  pub few : r ≤ n + 1
-  pub inside : r ≤ length ys
+-- `ids` with user u behind them, where u is attached on p and none of them
+unfoldable pub joined : (us : Users) (p : ℕ) (ids : List ℕ) (u : ℕ) → List ℕ
+joined us p ids u = ids ++ (if found (attached us p u) && not (member u ids) then u ∷ [] else [])
 
--- the id at place i, unless it stands before
-unfoldable pub fresh : List ℕ → ℕ → List ℕ
-fresh xs i = if member (getD xs i 0) (take i xs) then [] else getD xs i 0 ∷ []
+-- what is listed then: `list` and `t` become `after` and `r`. What stands further behind stays
+pub record Adds (us : Users) (p u : ℕ) (list : List ℕ) (t : Leavers) (after : List ℕ) (r : Leavers) : Type 0 where
+  pub grows : (ids : List ℕ) → Leaves us ids list t → Leaves us (joined us p ids u) after r
+  pub few : r .count ≤ t .count + 1
+  pub behind : (j : ℕ) → t .count < j → getD after j 0 ≡ getD list j 0

@@ -1,108 +1,88 @@
-// Who leaves: the list of their ids.
-ghost use mathlib.Core.Path.{_≡_};
-ghost use mathlib.Core.List.{List, [], _∷_};
-ghost use Prim.Native.Nat.{ℕ, _≤_, _<_};
-ghost use lib.ListN.{length, take};
-ghost use Rattle.places.specs.Sets.{if_then_else_, once, with, seats};
+// Who leaves: their ids in a list that is lent, and their places.
+ghost use Prim.Native.Nat.{_<_};
+ghost use lib.ListN.{take};
+ghost use Rattle.places.specs.Sets.{once};
 ghost use Rattle.places.specs.Places.{inOrder};
 ghost use Rattle.domain.specs.Tables.{users-of};
-ghost use Rattle.domain.specs.Channels.{places as placesOf};
 ghost use Rattle.domain.specs.Leaving.{those-on};
-ghost use Rattle.leavers.specs.Lists.{Grows, Holds, fresh};
+ghost use Rattle.leavers.specs.Lists.{Leaves, Adds};
 
-// User u behind the first n of the list, where u is attached on p.
+// How many leave: so many ids from the list's start on. And the places of their users.
+pub struct Leavers {
+    pub count: usize,
+    pub seats: u64,
+}
+
+// User u behind those listed, where u is attached on p and not one of them: its place is not yet among theirs.
 fn add_leaver(
     names: &[u16; 64],
     homes: &[u8; 64],
     p: u8,
     u: u16,
     list: &mut [u16; 64],
-    n: usize,
-) -> usize
-    requires { ⌜ n < 64 ⌝ }
-    ensures { λ r. ⌜ Grows (now (list .entry)) n (those-on (users-of (now (names .entry)) (now (homes .entry))) p (u ∷ [])) (now (list .exit)) r ⌝ }
+    t: Leavers,
+) -> Leavers
+    requires { ⌜ t .count < 64 ⌝ }
+    ensures { λ r. ⌜ Adds (users-of (now (names .entry)) (now (homes .entry))) p u (now (list .entry)) t (now (list .exit)) r ⌝ }
 {
-    // How long the columns are: a place below is found, and there is room for n + 1 ids.
+    // How long the columns are: a place below is found, and there is room for one id more.
     let all = names[..].len();
     let room = list[..].len();
-    if tables::users::attached(names, homes, p, u) < all {
-        list[n] = u;
-        return n + 1;
+    let j = tables::users::attached(names, homes, p, u);
+    if j < all {
+        let seat = j as u8;
+        if !masks::has(t.seats, seat) {
+            let n = t.count;
+            list[n] = u;
+            return Leavers {
+                count: n + 1,
+                seats: masks::with_seat(t.seats, seat),
+            };
+        }
     }
-    n
+    t
 }
 
-// The id at place i of `ids`, unless it stands before.
-fn add_listed(
-    names: &[u16; 64],
-    homes: &[u8; 64],
-    p: u8,
-    ids: &[u16],
-    i: usize,
-    list: &mut [u16; 64],
-    n: usize,
-) -> usize
-    requires { ⌜ (n < 64) × (i < length (now ids)) ⌝ }
-    ensures { λ r. ⌜ Grows (now (list .entry)) n (those-on (users-of (now (names .entry)) (now (homes .entry))) p (fresh (now (ids .entry)) i)) (now (list .exit)) r ⌝ }
-{
-    // How long the list is: no more ids are held.
-    let room = list[..].len();
-    let u = ids[i];
-    if columns::member(&ids[..i], u) {
-        return n;
-    }
-    add_leaver(names, homes, p, u, list, n)
-}
-
-// Of ids those attached on p, each once, in list order.
-fn pick(names: &[u16; 64], homes: &[u8; 64], p: u8, ids: &[u16], list: &mut [u16; 64]) -> usize
-    requires { ⌜ length (now ids) ≤ 64 ⌝ }
-    ensures { λ r. ⌜ Holds (now (list .exit)) r (those-on (users-of (now (names .entry)) (now (homes .entry))) p (once (now (ids .entry)))) ⌝ }
-{
-    let mut n = 0;
-    let mut i = 0;
-    while i < ids.len() {
-        n = add_listed(names, homes, p, ids, i, list, n);
-        i += 1;
-    }
-    n
-}
-
-// Of the first `count` listed ids those attached on p, each once, in list order.
+// Of the first `count` listed ids those attached on p, each once, in list order. They are kept in the list itself.
 pub fn listed_on(
     names: &[u16; 64],
     homes: &[u8; 64],
     p: u8,
-    listed: &[u16; 64],
-    count: usize,
     list: &mut [u16; 64],
-) -> usize
-    ensures { λ r. ⌜ Holds (now (list .exit)) r (those-on (users-of (now (names .entry)) (now (homes .entry))) p (once (take count (now (listed .entry))))) ⌝ }
+    count: usize,
+) -> Leavers
+    ensures { λ r. ⌜ Leaves (users-of (now (names .entry)) (now (homes .entry)))
+        (those-on (users-of (now (names .entry)) (now (homes .entry))) p (once (take count (now (list .entry))))) (now (list .exit)) r ⌝ }
 {
-    let ids = &listed[..];
-    if count < ids.len() {
-        return pick(names, homes, p, &ids[..count], list);
+    let m = columns::at_most(count, list[..].len());
+    let mut t = Leavers { count: 0, seats: 0 };
+    let mut i = 0;
+    while i < m {
+        let u = list[i];
+        t = add_leaver(names, homes, p, u, list, t);
+        i += 1;
     }
-    pick(names, homes, p, ids, list)
+    t
 }
 
 // The users on p, ascending.
-pub fn all_on(names: &[u16; 64], homes: &[u8; 64], p: u8, list: &mut [u16; 64]) -> usize
-    ensures { λ r. ⌜ Holds (now (list .exit)) r (those-on (users-of (now (names .entry)) (now (homes .entry))) p (inOrder (now (names .entry)))) ⌝ }
+pub fn all_on(names: &[u16; 64], homes: &[u8; 64], p: u8, list: &mut [u16; 64]) -> Leavers
+    ensures { λ r. ⌜ Leaves (users-of (now (names .entry)) (now (homes .entry)))
+        (those-on (users-of (now (names .entry)) (now (homes .entry))) p (inOrder (now (names .entry)))) (now (list .exit)) r ⌝ }
 {
     // How long the columns are: each user has a connection.
     let all = homes[..].len();
-    let mut n = 0;
+    let mut t = Leavers { count: 0, seats: 0 };
     let mut low: u16 = 0;
     let mut left = names[..].len();
     while 0 < left {
         let u = columns::next_where(names, homes, p, low);
         if u == 0 {
-            return n;
+            return t;
         }
-        n = add_leaver(names, homes, p, u, list, n);
+        t = add_leaver(names, homes, p, u, list, t);
         low = u;
         left -= 1;
     }
-    n
+    t
 }

@@ -3,3 +3,4 @@ pub mod UserLaws
 pub mod TokenLaws
 pub mod Marking
 pub mod ChannelSweeps
+pub mod OneMore
