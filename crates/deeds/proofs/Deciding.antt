@@ -8,11 +8,10 @@ use types.Run.{OneOf, miss}
 use denote.Enum.Declared.{tagOf}
 use Rattle.places.specs.Sets.{if_then_else_}
 use Rattle.places.specs.Places.{Place, At, Nowhere, find}
-use Rattle.messages.specs.Named.{Message, TGcf, TIcf, TRcf, TVin, TVcf, successful, no-such-user, token-not-possessed}
+use Rattle.messages.specs.Named.{Message, TVin, TVcf, successful, no-such-user, token-not-possessed}
 use Rattle.records.specs.Records.{to, wire}
 use Rattle.compose.specs.Confirms.{confirm}
 use Rattle.compose.specs.declared.Confirm.{Confirm}
-use Rattle.compose.specs.declared.Confirm.the-variants.{Give}
 use Rattle.domain.specs.declared.numbers.Result.{Result}
 use Rattle.domain.specs.declared.token.Holding.{Holding}
 use Rattle.domain.specs.declared.token.Holding.the-variants.{Free, Grabbed, Inhibited, Giving, Given}
@@ -20,9 +19,9 @@ use Rattle.domain.proofs.token.Holding.{the-type}
 use Rattle.domain.specs.declared.token.Turned.{Turned as CodeTurned}
 use Rattle.domain.specs.declared.token.Turned.the-variants.{Fails, Turns as TurnsTo}
 use Rattle.domain.specs.Numbers.{resultNumber}
-use Rattle.domain.specs.Tokens.{Turned, turnedOf, grab, inhibit, release, status, grabbed-by, offered-to, answered}
-use Rattle.domain.specs.Tables.{Users, Tokens, link, name, attached, is-free, state, set-token}
-use Rattle.domain.specs.Effects.{Effect, done, ignored, from}
+use Rattle.domain.specs.Tokens.{turnedOf, status, grabbed-by, offered-to, answered}
+use Rattle.domain.specs.Tables.{Users, Tokens, link, attached, state, set-token}
+use Rattle.domain.specs.Effects.{Effect, done, ignored}
 use Rattle.domain.specs.Passing.{turn, take-token, share-token, drop-token, offer, answer, informed}
 use Rattle.deeds.specs.declared.Ask.{Ask}
 use Rattle.deeds.specs.declared.Ask.the-variants.{Grab, Inhibit, Release, Offer, Answer}
@@ -65,42 +64,6 @@ module _ (ts : Tokens) (p u i k : ℕ) (kind : Confirm) (t : CodeTurned) {m : Li
       → Does ts k (record { fate = Turns h; told = true; q = p; m = m }) (turn ts p u i k (confirm kind) (turnedOf t))
   unfolding turn
   turned-turns h e o = turns ts k (confirm kind 0 u k (status h i)) o h (rw e refl)
-
--- whether the limit is reached matters for a free token alone
-pub grab-same : (h : Holding) (u : ℕ) (a b : Bool) → (is-free h ≡ true → a ≡ b) → grab a h u ≡ grab b h u
-unfolding is-free grab
-grab-same Free u a b e = ap (λ (f : Bool). grab f Free u) (e refl)
-grab-same (Grabbed g) u a b e = refl
-grab-same (Inhibited is) u a b e = refl
-grab-same (Giving g r) u a b e = refl
-grab-same (Given r) u a b e = refl
-
-pub inhibit-same : (h : Holding) (u : ℕ) (a b : Bool) → (is-free h ≡ true → a ≡ b) → inhibit a h u ≡ inhibit b h u
-unfolding is-free inhibit
-inhibit-same Free u a b e = ap (λ (f : Bool). inhibit f Free u) (e refl)
-inhibit-same (Grabbed g) u a b e = refl
-inhibit-same (Inhibited is) u a b e = refl
-inhibit-same (Giving g r) u a b e = refl
-inhibit-same (Given r) u a b e = refl
-
--- what is made of it for the user at place i is what the request makes of it
-module _ (full : Bool) (us : Users) (ts : Tokens) (p u i k : ℕ) (here : attached us p u ≡ At i) (h : Holding) (is : h ≡ state ts k) (t : Turned) (ask : Ask) where
-  turn-from : (confirms : (ℕ → ℕ → ℕ → ℕ → Message)) (act : (Holding → ℕ → Turned)) → t ≡ act h i
-      → turn ts p u i k confirms t ≡ from us p u λ j. turn ts p u j k confirms (act (state ts k) j)
-  turn-from confirms act e =
-      ap (turn ts p u i k confirms) (e ∙ ap (λ (x : Holding). act x i) is) ∙ sym (from-at us p u (λ j. turn ts p u j k confirms (act (state ts k) j)) i here)
-
-  pub grabs : (b : Bool) → ask ≡ Grab → t ≡ grab b h i → (is-free h ≡ true → b ≡ full) → turn ts p u i k TGcf t ≡ asked ask full us ts p u k
-  unfolding take-token
-  grabs b e r f = turn-from TGcf (grab full) (r ∙ grab-same h i b full f) ∙ ap (λ (x : Ask). asked x full us ts p u k) (sym e)
-
-  pub inhibits : (b : Bool) → ask ≡ Inhibit → t ≡ inhibit b h i → (is-free h ≡ true → b ≡ full) → turn ts p u i k TIcf t ≡ asked ask full us ts p u k
-  unfolding share-token
-  inhibits b e r f = turn-from TIcf (inhibit full) (r ∙ inhibit-same h i b full f) ∙ ap (λ (x : Ask). asked x full us ts p u k) (sym e)
-
-  pub releases : ask ≡ Release → t ≡ release h i → turn ts p u i k TRcf t ≡ asked ask full us ts p u k
-  unfolding drop-token
-  releases e r = turn-from TRcf release r ∙ ap (λ (x : Ask). asked x full us ts p u k) (sym e)
 
 pub asked-nowhere : (ask : Ask) (full : Bool) (us : Users) (ts : Tokens) (p u k : ℕ) → attached us p u ≡ Nowhere → asked ask full us ts p u k ≡ ignored
 unfolding take-token share-token drop-token offer answer

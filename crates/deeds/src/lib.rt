@@ -1,14 +1,20 @@
 // What comes of a request about a token, decided on the columns as they are: nothing is stored yet, and nothing sent.
 ghost use mathlib.Core.Path.{_≡_};
 ghost use mathlib.Core.Bool.{true, false};
-ghost use Rattle.places.specs.Places.{At, Nowhere};
-ghost use Rattle.records.specs.Records.{wire};
+ghost use mathlib.Core.List.{[], _∷_};
+ghost use Prim.Native.Nat.{_<_, _≤_};
+ghost use lib.ListN.{getD};
+ghost use Rattle.places.specs.Places.{At, Nowhere, find as findIn};
+ghost use Rattle.messages.specs.Named.{TVin};
+ghost use Rattle.records.specs.Records.{to, wire};
 ghost use Rattle.compose.specs.Confirms.{confirm as confirmOf};
-ghost use Rattle.domain.specs.Tokens.{turnedOf, status as statusOf};
+ghost use Rattle.domain.specs.Numbers.{resultNumber};
+ghost use Rattle.domain.specs.Tokens.{turnedOf, status as statusOf, grabbed-by};
 ghost use Rattle.domain.specs.Tables.{Tokens, users-of, attached, at-limit, is-free, state, set-token};
-ghost use Rattle.domain.specs.Passing.{turn as turnOf, offer as offerOf, answer as answerOf, informed};
+ghost use Rattle.domain.specs.Passing.{turn as turnOf, answer as answerOf, informed};
 ghost use Rattle.domain.specs.Effects.{done};
 ghost use Rattle.deeds.specs.Deeds.{Does, asked};
+ghost use Rattle.deeds.specs.Attempts.{refusal, attempted, kindOf};
 use compose::Confirm;
 use domain::numbers::Result;
 use domain::token::Holding;
@@ -106,50 +112,67 @@ fn turned(kind: Confirm, p: u8, u: u16, i: u8, k: u16, h: Holding, t: Turned) ->
     }
 }
 
-// TVrq by u, at place i and attached on p, for token k in state h: it is giving if u has grabbed it and the recipient is attached.
-fn offered(
-    names: &[u16; 64],
-    homes: &[u8; 64],
-    p: u8,
-    u: u16,
-    i: u8,
-    k: u16,
-    h: Holding,
-    recipient: u16,
-) -> Deed
-    requires { ⌜ attached (users-of (now names) (now homes)) p u ≡ At i ⌝ }
-    ensures { λ r. ⌜ ((ts : Tokens) → h ≡ state ts k → Does ts k r (offerOf (users-of (now (names .entry)) (now (homes .entry))) ts p u k recipient)) ⌝ }
+// The place of the recipient of an offer of a token in state h by the user at place i, who must have grabbed it; 64 is nowhere.
+fn recipient_at(names: &[u16; 64], h: Holding, i: u8, recipient: u16) -> usize
+    ensures { λ r. ⌜ (r < 64 → (grabbed-by h i ≡ true) × (findIn (now (names .entry)) recipient ≡ At r))
+        × (64 ≤ r → grabbed-by h i ≡ true → findIn (now (names .entry)) recipient ≡ Nowhere) ⌝ }
 {
     if states::token::has_grabbed(h, i) {
-        let at = seeking::find(names, recipient);
-        if at < 64 {
-            let j = at as u8;
-            return Deed {
-                fate: Fate::Turns(Holding::Giving(i, j)),
-                told: true,
-                q: tables::users::link_at(homes, j),
-                m: compose::give_indication(u, k, recipient),
-            };
-        }
-        return turned(
-            Confirm::Give,
-            p,
-            u,
-            i,
-            k,
-            h,
-            Turned::Fails(Result::NoSuchUser),
-        );
+        return seeking::find(names, recipient);
     }
-    turned(
-        Confirm::Give,
-        p,
-        u,
-        i,
-        k,
-        h,
-        Turned::Fails(Result::TokenNotPossessed),
-    )
+    64
+}
+
+// Token k is being given by u, at place i, to the recipient at place j, who is told.
+fn given(homes: &[u8; 64], u: u16, i: u8, k: u16, j: u8, recipient: u16) -> Deed
+    ensures { λ r. ⌜ ((ts : Tokens) → Does ts k r (done (set-token ts k (Holding.Giving i j)) (to (getD (now (homes .entry)) j 16) (TVin u k recipient) ∷ []))) ⌝ }
+{
+    Deed {
+        fate: Fate::Turns(Holding::Giving(i, j)),
+        told: true,
+        q: tables::users::link_at(homes, j),
+        m: compose::give_indication(u, k, recipient),
+    }
+}
+
+// What a request that is confirmed to its asker makes of a token, and the confirm's kind.
+struct Outcome {
+    kind: Confirm,
+    turned: Turned,
+}
+
+// Why an offer by the user at place i, of a token in state h, is not passed on.
+fn offer_fails(h: Holding, i: u8) -> Result
+    ensures { λ r. ⌜ resultNumber r ≡ refusal h i ⌝ }
+{
+    if states::token::has_grabbed(h, i) {
+        return Result::NoSuchUser;
+    }
+    Result::TokenNotPossessed
+}
+
+// Any request but an answer, by the user at place i, for a token in state h; an offer is one that is not passed on.
+fn attempt(keys: &[u16; 64], limit: u8, h: Holding, i: u8, ask: Ask) -> Outcome
+    ensures { λ r. ⌜ (r .kind ≡ kindOf ask) × (turnedOf (r .turned) ≡ attempted ask (at-limit limit (now (keys .entry))) h i) ⌝ }
+{
+    match ask {
+        Ask::Grab => Outcome {
+            kind: Confirm::Grab,
+            turned: states::token::grab(full_for(h, limit, keys), h, i),
+        },
+        Ask::Inhibit => Outcome {
+            kind: Confirm::Inhibit,
+            turned: states::token::inhibit(full_for(h, limit, keys), h, i),
+        },
+        Ask::Release => Outcome {
+            kind: Confirm::Release,
+            turned: states::token::release(h, i),
+        },
+        _ => Outcome {
+            kind: Confirm::Give,
+            turned: Turned::Fails(offer_fails(h, i)),
+        },
+    }
 }
 
 // Token k, which was in state h, is then in another; a giver is told the result.
@@ -221,22 +244,17 @@ pub fn decide(
     if i == NOWHERE {
         return quiet(Fate::Ignored);
     }
-    match ask {
-        Ask::Grab => {
-            let full = full_for(h, limit, keys);
-            let t = states::token::grab(full, h, i);
-            turned(Confirm::Grab, p, u, i, k, h, t)
-        }
-        Ask::Inhibit => {
-            let full = full_for(h, limit, keys);
-            let t = states::token::inhibit(full, h, i);
-            turned(Confirm::Inhibit, p, u, i, k, h, t)
-        }
-        Ask::Release => {
-            let t = states::token::release(h, i);
-            turned(Confirm::Release, p, u, i, k, h, t)
-        }
-        Ask::Offer(recipient) => offered(names, homes, p, u, i, k, h, recipient),
-        Ask::Answer(result) => answered(names, homes, p, u, i, k, h, result),
+    if let Ask::Answer(result) = ask {
+        return answered(names, homes, p, u, i, k, h, result);
     }
+    if let Ask::Offer(recipient) = ask {
+        let at = recipient_at(names, h, i, recipient);
+        if at < 64 {
+            return given(homes, u, i, k, at as u8, recipient);
+        }
+    }
+    let t = attempt(keys, limit, h, i, ask);
+    let kind = t.kind;
+    let what = t.turned;
+    turned(kind, p, u, i, k, h, what)
 }

@@ -1,5 +1,8 @@
-use Rattle.domain.specs.Tables.{users-of, at-limit}
-use Rattle.deeds.proofs.Deciding.{does-as, quiet-ignored, asked-nowhere, grabs, inhibits, releases}
+use mathlib.Core.Path.{sym}
+use mathlib.Core.Logic.{⊎-elim}
+use Rattle.domain.specs.Tables.{users-of, link, at-limit}
+use Rattle.deeds.proofs.Deciding.{does-as, quiet-ignored, asked-nowhere, offer-given}
+use Rattle.deeds.proofs.Attempting.{confirms-own, confirms-offer}
 use borrow.Author.Needs.{needs}
 use Rattle.deeds.proofs.decide.Statement.{statement}
 use Rattle.deeds.proofs.decide.Tie as tie
@@ -15,74 +18,59 @@ returns c =
     λ ts is. let a = c .before .before .before .args in
     quiet-ignored ts (a .k) (c .quiet .result) (c .quiet .ensures .0) (asked-nowhere (a .ask) (at-limit (a .limit) (a .keys .now)) (users-of (a .names .now) (a .homes .now)) ts (a .p) (a .u) (a .k) (c .before .before .asker .ensures .0 (c .before .if1 .taken)))
 
-enum-told : tie.Need-enum-told
-enum-told c = search needs
-
-full-for-requires : tie.Need-full-for-requires
-full-for-requires c κs = search needs
-
-grab-requires : tie.Need-grab-requires
-grab-requires c κs = search needs
-
-turned-requires : tie.Need-turned-requires
-turned-requires c κs = search needs
-
-enum-told-2 : tie.Need-enum-told-2
-enum-told-2 c = search needs
-
-full-for-requires-2 : tie.Need-full-for-requires-2
-full-for-requires-2 c κs = search needs
-
-inhibit-requires : tie.Need-inhibit-requires
-inhibit-requires c κs = search needs
-
-turned-requires-2 : tie.Need-turned-requires-2
-turned-requires-2 c κs = search needs
-
-enum-told-3 : tie.Need-enum-told-3
-enum-told-3 c = search needs
-
-release-requires : tie.Need-release-requires
-release-requires c κs = search needs
-
-turned-requires-3 : tie.Need-turned-requires-3
-turned-requires-3 c κs = search needs
-
 enum-known-ask : tie.Need-enum-known-ask
 enum-known-ask c = search needs
-
-offered-requires : tie.Need-offered-requires
-offered-requires c κs = c .before .before .before .before .asker .ensures .1 (c .before .before .before .if1 .left)
-
-enum-known-ask-2 : tie.Need-enum-known-ask-2
-enum-known-ask-2 c = search needs
 
 answered-requires : tie.Need-answered-requires
 answered-requires c κs = c .before .before .before .before .asker .ensures .1 (c .before .before .before .if1 .left)
 
 returns-2 : tie.Need-returns-2
-returns-2 c =
-    λ ts is. let a = c .before .before .before .before .before .before .before .args in
-    does-as ts (a .k) (c .turned .result) (c .turned .ensures ts is)
-    (grabs (at-limit (a .limit) (a .keys .now)) (users-of (a .names .now) (a .homes .now)) ts (a .p) (a .u) (c .before .before .before .before .before .before .asker .result) (a .k) (c .before .before .before .before .before .before .asker .ensures .1 (c .before .before .before .before .before .if1 .left)) (a .h) is _ (a .ask) (c .before .before .full-for .result) (c .before .before .before .enum-told .given .1) (c .before .grab .ensures) (c .before .before .full-for .ensures))
+returns-2 c = λ ts is. rw (c .before .before .ask .given .1) (c .answered .ensures ts is)
+
+enum-known-ask-2 : tie.Need-enum-known-ask-2
+enum-known-ask-2 c = search needs
+
+recipient-at-requires : tie.Need-recipient-at-requires
+recipient-at-requires c κs = search needs
+
+cast-given : tie.Need-cast-given
+cast-given c = search needs
+
+given-requires : tie.Need-given-requires
+given-requires c κs = search needs
 
 returns-3 : tie.Need-returns-3
+unfolding link
 returns-3 c =
-    λ ts is. let a = c .before .before .before .before .before .before .before .args in
-    does-as ts (a .k) (c .turned2 .result) (c .turned2 .ensures ts is)
-    (inhibits (at-limit (a .limit) (a .keys .now)) (users-of (a .names .now) (a .homes .now)) ts (a .p) (a .u) (c .before .before .before .before .before .before .asker .result) (a .k) (c .before .before .before .before .before .before .asker .ensures .1 (c .before .before .before .before .before .if1 .left)) (a .h) is _ (a .ask) (c .before .before .full-for2 .result) (c .before .before .before .enum-told2 .given .1) (c .before .inhibit .ensures) (c .before .before .full-for2 .ensures))
+    λ ts is. let s = c .before .before .before .before .before .before .before .before in
+    let a = s .before .args in
+    let at = c .before .before .recipient-at in
+    let r = c .before .before .before .before .ask2 .given .0 .0 in
+    let found = at .ensures .0 (c .before .if2 .taken) in
+    rw (c .before .before .before .before .ask2 .given .1)
+    (does-as ts (a .k) (c .given .result) (c .given .ensures ts)
+    (sym (offer-given (users-of (a .names .now) (a .homes .now)) ts (a .p) (a .u) (s .asker .result) (a .k) r (s .asker .ensures .1 (c .before .before .before .before .before .before .before .if1 .left)) is (found .0) (at .result) (found .1))))
+
+attempt-requires : tie.Need-attempt-requires
+attempt-requires c κs = search needs
+
+turned-requires : tie.Need-turned-requires
+turned-requires c κs = search needs
 
 returns-4 : tie.Need-returns-4
 returns-4 c =
-    λ ts is. let a = c .before .before .before .before .before .before .args in
-    does-as ts (a .k) (c .turned3 .result) (c .turned3 .ensures ts is)
-    (releases (at-limit (a .limit) (a .keys .now)) (users-of (a .names .now) (a .homes .now)) ts (a .p) (a .u) (c .before .before .before .before .before .asker .result) (a .k) (c .before .before .before .before .before .asker .ensures .1 (c .before .before .before .before .if1 .left)) (a .h) is _ (a .ask) (c .before .before .enum-told3 .given .1) (c .before .release .ensures))
-
-returns-5 : tie.Need-returns-5
-returns-5 c = λ ts is. rw (c .before .before .ask .given .1) (c .offered .ensures ts is)
-
-returns-6 : tie.Need-returns-6
-returns-6 c = λ ts is. rw (c .before .before .ask2 .given .1) (c .answered .ensures ts is)
+    λ ts is. let s = c .before .before .before .before .before in
+    let a = s .before .args in
+    let us = users-of (a .names .now) (a .homes .now) in
+    let full = at-limit (a .limit) (a .keys .now) in
+    let here = s .asker .ensures .1 (c .before .before .before .before .if1 .left) in
+    let m = c .before .before .match2 in
+    let t = c .before .attempt in
+    does-as ts (a .k) (c .turned .result) (c .turned .ensures ts is)
+    (⊎-elim
+    (λ w. confirms-offer full us ts (a .p) (a .u) (s .asker .result) (a .k) here (a .h) is (m .ask) (t .ensures .0) (t .ensures .1) (a .ask) (w .1 .given .0 .0) (w .5) (w .1 .given .1) (w .3 .ensures .1 (w .4 .left)))
+    (λ w. confirms-own full us ts (a .p) (a .u) (s .asker .result) (a .k) here (a .h) is (m .ask) (t .ensures .0) (t .ensures .1) (a .ask) (w .1) (c .before .before .before .match .keys2) (w .0 .keys2))
+    (m .came))
 
 pub decide-spec : {M : Type 1} → statement M
 decide-spec =
@@ -91,23 +79,14 @@ decide-spec =
     asker-requires
     quiet-requires
     returns
-    enum-told
-    full-for-requires
-    grab-requires
-    turned-requires
-    enum-told-2
-    full-for-requires-2
-    inhibit-requires
-    turned-requires-2
-    enum-told-3
-    release-requires
-    turned-requires-3
     enum-known-ask
-    offered-requires
-    enum-known-ask-2
     answered-requires
     returns-2
+    enum-known-ask-2
+    recipient-at-requires
+    cast-given
+    given-requires
     returns-3
-    returns-4
-    returns-5
-    returns-6)
+    attempt-requires
+    turned-requires
+    returns-4)
