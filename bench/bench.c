@@ -12,7 +12,7 @@
 
 static struct ladlestorm_domain ours;
 uint32_t read_message(const uint8_t *octets, size_t length, uint32_t *values, uint16_t *list);
-uint32_t read_many(const uint8_t *octets, size_t length, uint32_t rounds);
+uint32_t read_once(const uint8_t *octets, size_t length, uint16_t list[64]);
 uint32_t write_many(uint8_t *room, size_t length, uint32_t number, uint32_t rounds);
 
 static struct plain plain;
@@ -137,13 +137,17 @@ static const uint8_t first_grab[] = {0x74, 0x00, 0x00, 0x00, 0x00};    /* TGrq b
 static const uint8_t first_release[] = {0x9C, 0x00, 0x00, 0x00, 0x00}; /* TRrq */
 static uint8_t detach[131] = {0x30, 0x00, 0x40};                       /* DUrq of 64 ids */
 static uint8_t room[16];
+static uint16_t our_list[64];
+static struct message read_last;
 
 static void our_mix(void) { for (size_t i = 0; i < count; i++) sink = by_ours(&events[i], ROOM); }
 static void plain_mix(void) { for (size_t i = 0; i < count; i++) sink = by_plain(&events[i], ROOM); }
-static void our_grab(void) { sink = read_many(grab, sizeof grab, rounds); }
-static void plain_grab(void) { sink = plain_read_many(grab, sizeof grab, rounds); }
-static void our_detach(void) { sink = read_many(detach, sizeof detach, rounds); }
-static void plain_detach(void) { sink = plain_read_many(detach, sizeof detach, rounds); }
+static void our_reads(const uint8_t *octets, size_t length) { for (uint32_t i = 0; i < rounds; i++) sink = read_once(octets, length, our_list); }
+static void plain_reads(const uint8_t *octets, size_t length) { for (uint32_t i = 0; i < rounds; i++) sink = plain_read(octets, length, &read_last) ? 0 : read_last.number + read_last.id[1]; }
+static void our_grab(void) { our_reads(grab, sizeof grab); }
+static void plain_grab(void) { plain_reads(grab, sizeof grab); }
+static void our_detach(void) { our_reads(detach, sizeof detach); }
+static void plain_detach(void) { read_last.id[1] = 0; plain_reads(detach, sizeof detach); }
 static void our_write(void) { sink = write_many(room, sizeof room, 30, rounds); }
 static void plain_write_checked(void) { sink = plain_write_many(room, sizeof room, 30, rounds); }
 

@@ -897,21 +897,8 @@ int plain_message(struct plain *d, u32 p, const octet *s, size n, octet *out, si
     }
 }
 
-/* Loops for the timing of the codec. The barriers keep the compiler from doing one round for all. */
+/* A loop for the timing of the codec. The barrier keeps the compiler from doing one round for all. */
 static inline void barrier(void *p) { __asm__ volatile("" : : "r"(p) : "memory"); }
-
-u32 plain_read_many(const octet *s, size n, u32 rounds)
-{
-    u32 sum = 0;
-    struct message m = {0};
-    while (rounds--) {
-        if (plain_read(s, n, &m))
-            return 0;
-        barrier(&m);
-        sum += m.number + m.id[1];
-    }
-    return sum;
-}
 
 u32 plain_write_many(octet *s, size room, u32 number, u32 rounds)
 {

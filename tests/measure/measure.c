@@ -9,7 +9,7 @@
 #include <sys/mman.h>
 #include <time.h>
 
-uint32_t read_many(const uint8_t *octets, size_t length, uint32_t rounds);
+uint32_t read_once(const uint8_t *octets, size_t length, uint16_t list[64]);
 uint32_t write_many(uint8_t *room, size_t length, uint32_t number, uint32_t rounds);
 
 static const uint8_t grab[] = {0x74, 0x00, 0x06, 0x00, 0x00};
@@ -23,9 +23,11 @@ static struct ladlestorm_domain domain;
 static volatile uint32_t sink;
 static uint32_t rounds = 1000;
 
-static void read_grab(void) { sink = read_many(grab, sizeof grab, rounds); }
-static void read_confirm(void) { sink = read_many(confirm, sizeof confirm, rounds); }
-static void read_detach(void) { sink = read_many(detach, sizeof detach, rounds); }
+static uint16_t list[64];
+static void reads(const uint8_t *octets, size_t length) { for (uint32_t i = 0; i < rounds; i++) sink = read_once(octets, length, list); }
+static void read_grab(void) { reads(grab, sizeof grab); }
+static void read_confirm(void) { reads(confirm, sizeof confirm); }
+static void read_detach(void) { reads(detach, sizeof detach); }
 static void write_confirm(void) { sink = write_many(room, 16, 30, rounds); }
 
 /* The user grabs the token and releases it. */

@@ -1,16 +1,19 @@
-// Loops over the codec for a C program to time, and what a message is read as. The sums keep the compiler from leaving the work out.
+// The codec for a C program to time, and what a message is read as. The sums keep the compiler from leaving the work out.
 
-// Reads a message so many times; the sum of what was read.
+// Reads a message as the provider does: the short way, or straight into the list lent, or by the table of messages. A sum of what was read.
 #[no_mangle]
-pub extern "C" fn read_many(s: &[u8], rounds: u32) -> u32 {
-    let mut sum: u32 = 0;
-    let mut left = rounds;
-    while 0 < left {
-        left -= 1;
-        let d = brief::decode(s);
-        sum = std::num::wrapping_add_u32(sum, std::num::wrapping_add_u32(d.number, d.values[1]));
+pub extern "C" fn read_once(s: &[u8], list: &mut [u16; 64]) -> u32 {
+    let q = brief::read_short(s);
+    if q.ok {
+        return std::num::wrapping_add_u32(q.number, q.second as u32);
     }
-    sum
+    let l = brief::lists::read_listing(s, list);
+    if l.ok {
+        return std::num::wrapping_add_u32(l.number, l.second as u32);
+    }
+    let h = reader::read_into(s, list);
+    let values = h.values;
+    std::num::wrapping_add_u32(h.number, values[1])
 }
 
 // Writes a message of a number (30, TGcf) into the room lent so many times, each for another token; the sum of the sizes.
