@@ -244,7 +244,7 @@ fn mark(low: u16, x: u16) -> u64
     if k < 64 { 1u64 << k } else { 0 }
 }
 
-// The marks of all places: one by one; of eight that may be free; eight at a time.
+// The marks of all places, one by one.
 fn marks_of(ids: &[u16], low: u16) -> u64
     requires { ⌜ low + 64 ≤ 65535 ⌝ }
     ensures { λ r. ⌜ r ≡ marked low (now (ids .entry)) ⌝ }
@@ -258,6 +258,14 @@ fn marks_of(ids: &[u16], low: u16) -> u64
     m
 }
 
+// Which of the ids 1001 to 1064 are in a list.
+pub fn id_marks(ids: &[u16]) -> u64
+    ensures { λ r. ⌜ r ≡ marked 1000 (now (ids .entry)) ⌝ }
+{
+    marks_of(ids, 1000)
+}
+
+// The same of eight that may be free, and eight at a time.
 fn marks_of_eight(ids: &[u16], i: usize, low: u16) -> u64
     requires { ⌜ (i + 8 ≤ length (now ids)) × (low + 64 ≤ 65535) ⌝ }
     ensures { λ r. ⌜ r ≡ marked low (take 8 (drop i (now (ids .entry)))) ⌝ }

@@ -1,110 +1,91 @@
--- What becomes of a channel, and where the sweep of the table starts.
-use mathlib.Core.Path.{_≡_, refl, sym, ap, _∙_}
-use mathlib.Core.Bool.{Bool, true, false, _&&_, and-true, and-false}
+-- What becomes of a channel by the test of its role, what becomes of its place, and where the sweep of the table starts.
+use mathlib.Core.Path.{_≡_, refl, ap, ap₂, _∙_}
+use mathlib.Core.Bool.{Bool, true, false}
 use mathlib.Core.List.{List}
 use mathlib.Core.Option.{Option, none, some}
-use Prim.Native.Nat.{ℕ}
+use Prim.Native.Nat.{ℕ, _<_}
 use native.Mathlib.Omega.{arith}
-use borrow.Author.Tests.{eq-eqb, ne-eqb, ltb-true, ltb-false}
-use lib.Dec.{ltb}
-use lib.ListN.{length}
-use Rattle.places.specs.Sets.{if_then_else_, member, has, with, minus, meet, links, seats}
-use Rattle.places.specs.Places.{Place, At, Nowhere, find, found, number}
-use Rattle.places.specs.Swept.{anywhere}
-use Rattle.places.proofs.Marks.{meet-none}
-use Rattle.places.proofs.Rows.{find-holds}
-use Rattle.places.proofs.Answers.{find-at, find-nowhere}
+use borrow.Author.Tests.{eqb-true, ne-eqb}
+use lib.Dec.{eqb}
+use lib.ListN.{length, getD, set}
+use lib.Seq.{set-getD}
+use Rattle.places.specs.Sets.{if_then_else_, member, has, meet, links}
+use Rattle.places.specs.Swept.{Turns, anywhere}
 use Rattle.places.proofs.Sweeps.{Sweeps, sweeps-start}
-use Rattle.domain.specs.declared.channel.Kind.the-variants.{Static, User, Private, Assigned}
 use Rattle.domain.specs.declared.channel.Channel.{Channel}
 use Rattle.domain.specs.Cells.{no-channel, kind, with-marks, with-guests}
-use Rattle.domain.specs.Tables.{Users, hosts, channel-cells, lapses, marked}
-use Rattle.domain.specs.Channels.{places, private}
-use Rattle.domain.specs.Leaving.{fate, fate-of}
-use Rattle.domain.proofs.Listed.{places-has}
-use Rattle.tables.proofs.ChannelSweeps.{channel-count}
-use Rattle.vacating.specs.declared.channels.Fate.{Fate}
-use Rattle.vacating.specs.Fates.{fateOf, gone-at}
+use Rattle.domain.specs.Tables.{Users, channels-of, channel-cells, end-channel, lapses, marked}
+use Rattle.domain.specs.Channels.{private}
+use Rattle.domain.proofs.CellLaws.{channel, channel-at, channel-set}
+use Rattle.tables.proofs.ChannelSweeps.{channel-ends, channel-stays, channel-count}
+use Rattle.vacating.specs.Fates.{fate-of, fate-by, ends-by, guests-left, marks-left}
 
--- ---- marks
-module _ (ch : Channel) (m : ℕ) where
-  pub mark-ends : lapses (kind ch) ≡ true → m ≡ 0 → none ≡ marked ch m
-  unfolding marked
-  mark-ends l z = rw (l, eq-eqb m 0 z) refl
+-- ---- one channel: it ends where the test says so, and else has what is left of it
+module _ (us : Users) (list : List ℕ) (gone live c role chair guests marks m : ℕ) (e : m ≡ meet links marks live) where
+  abbrev kept : Channel
+  kept = channel role chair (guests-left role guests gone) (marks-left us role chair (guests-left role guests gone) m)
 
-  pub mark-joined : lapses (kind ch) ≡ true → (m ≡ 0 → ⊥) → some (with-marks ch m) ≡ marked ch m
-  unfolding marked
-  mark-joined l z = rw (l, ne-eqb m 0 z) refl
+  abbrev Fated : Type 0
+  Fated = fate-by us list gone live c (channel role chair guests marks) ≡ (if ends-by role chair (member c list) gone m then none else some kept)
 
-  pub mark-stays : lapses (kind ch) ≡ false → some (with-marks ch m) ≡ marked ch m
-  unfolding marked
-  mark-stays l = rw l refl
-
--- ---- a private channel that nobody joined: nobody stays joined
-pub private-none : (us : Users) (ch : Channel) (g guests m : ℕ) → m ≡ 0 → with-guests ch guests 0 ≡ private us ch g guests m
-unfolding private
-private-none us ch g guests m e = rw (e, meet-none links (hosts us (with seats guests g))) refl
-
--- ---- a user id channel: its user is found at the place of one of those listed where it is listed itself
-module _ (us : Users) (sized : length (us .ids) ≡ 64) (list : List ℕ) (c : ℕ) where
-  gone-listed : gone-at (places us list) (find (us .ids) c) ≡ (member c list && found (find (us .ids) c))
-  unfolding gone-at found
-  gone-listed = go (find (us .ids) c) refl
+  fated-user : eqb role 2 ≡ true → eqb role 3 ≡ false → Fated
+  unfolding fate-by fate-of kind marked lapses with-marks ends-by guests-left marks-left
+  fated-user a b = go (member c list) refl
     where
-      go : (w : Place) → find (us .ids) c ≡ w → gone-at (places us list) w ≡ (member c list && found w)
-      go (At i) e = places-has us c i e (omega (arith, find-holds (us .ids) c i e)) list ∙ sym (and-true (member c list))
-      go Nowhere e = sym (and-false (member c list))
+      go : (l : Bool) → member c list ≡ l → Fated
+      go true q = rw (a, b, q) refl
+      go false q = rw (a, b, q, a, e) refl
 
-  pub user-unlisted : member c list ≡ false → false ≡ gone-at (places us list) (find (us .ids) c)
-  user-unlisted m = sym (gone-listed ∙ rw m refl)
-
-  pub user-listed : (n r : ℕ) → n ≡ 64 → member c list ≡ true → r ≡ number (length (us .ids)) (find (us .ids) c) → ltb r n ≡ gone-at (places us list) (find (us .ids) c)
-  unfolding found
-  user-listed n r k m e = go (ltb r n) refl ∙ sym (gone-listed ∙ rw m refl)
+  fated-private : eqb role 2 ≡ false → eqb role 3 ≡ true → Fated
+  unfolding fate-by fate-of kind private with-guests ends-by guests-left marks-left
+  fated-private a b = go (has gone chair) refl
     where
-      go : (b : Bool) → ltb r n ≡ b → b ≡ found (find (us .ids) c)
-      go true q = sym (ap found (find-at (us .ids) c r e (omega (arith, ltb-true r n q))))
-      go false q = sym (ap found (find-nowhere (us .ids) c r e (omega (arith, ltb-false r n q))))
+      go : (h : Bool) → has gone chair ≡ h → Fated
+      go true q = rw (a, b, q) refl
+      go false q = rw (a, b, q, e) refl
 
--- ---- the fate by the channel's kind
-module _ (us : Users) (gone live c : ℕ) (ch : Channel) (m : ℕ) (e : m ≡ meet links (ch .marks) live) where
-  pub fate-static : kind ch ≡ Static → marked ch m ≡ fate us gone live c ch
-  unfolding fate fate-of
-  fate-static k = rw (k, e) refl
-
-  pub fate-assigned : kind ch ≡ Assigned → marked ch m ≡ fate us gone live c ch
-  unfolding fate fate-of
-  fate-assigned k = rw (k, e) refl
-
-  user-fate : fate-of us gone live c ch User ≡ (if gone-at gone (find (us .ids) c) then none else marked ch (meet links (ch .marks) live))
-  unfolding fate-of gone-at
-  user-fate = go (find (us .ids) c)
+  fated-other : eqb role 2 ≡ false → eqb role 3 ≡ false → Fated
+  unfolding fate-by fate-of kind marked lapses with-marks ends-by guests-left marks-left
+  fated-other a b = go (eqb role 4) refl
     where
-      go : (w : Place) → elim w as (λ (_ : Place). Option Channel) [ At i ↦ if has gone i then none else marked ch (meet links (ch .marks) live) | Nowhere ↦ marked ch (meet links (ch .marks) live) ]
-          ≡ (if gone-at gone w then none else marked ch (meet links (ch .marks) live))
-      go (At i) = refl
-      go Nowhere = refl
+      go : (q : Bool) → eqb role 4 ≡ q → Fated
+      go true q = rw (a, b, q, a, b, q, e) refl
+      go false q = rw (a, b, q, a, b, q, e) refl
 
-  pub fate-left : kind ch ≡ User → gone-at gone (find (us .ids) c) ≡ true → none ≡ fate us gone live c ch
-  unfolding fate
-  fate-left k g = rw (k, user-fate, g) refl
+  fated : Fated
+  fated = go (eqb role 2) (eqb role 3) refl refl
+    where
+      go : (a b : Bool) → eqb role 2 ≡ a → eqb role 3 ≡ b → Fated
+      go true b p q = fated-user p (ne-eqb role 3 (λ z. omega (arith, eqb-true role 2 p)))
+      go false true p q = fated-private p q
+      go false false p q = fated-other p q
 
-  pub fate-user : kind ch ≡ User → gone-at gone (find (us .ids) c) ≡ false → marked ch m ≡ fate us gone live c ch
-  unfolding fate
-  fate-user k g = rw (k, user-fate, g, e) refl
+-- ---- its place, as the code stores it
+module _ (us : Users) (list : List ℕ) (gone live j : ℕ) (ids rs cs gs ms : List ℕ) (n : getD ids j 0 ≡ 0 → ⊥)
+    (a : j < length rs) (b : j < length cs) (d : j < length gs) (f : j < length ms) (m : ℕ) (e : m ≡ meet links (getD ms j 0) live)
+    (listed ends : Bool) (l : listed ≡ member (getD ids j 0) list) (t : ends ≡ ends-by (getD rs j 0) (getD cs j 0) listed gone m) where
+  -- what is left: the admitted and the connections
+  abbrev admitted : ℕ
+  admitted = guests-left (getD rs j 0) (getD gs j 0) gone
 
-  module _ (g guests : ℕ) (k : kind ch ≡ Private g guests) where
-    pub fate-ended : has gone g ≡ true → none ≡ fate us gone live c ch
-    unfolding fate fate-of
-    fate-ended h = rw (k, h) refl
+  abbrev joined : ℕ
+  joined = marks-left us (getD rs j 0) (getD cs j 0) admitted m
 
-    pub fate-private : has gone g ≡ false → (left : ℕ) → left ≡ minus seats guests gone → some (private us ch g left m) ≡ fate us gone live c ch
-    unfolding fate fate-of
-    fate-private h left z = rw (k, h, z, e) refl
+  here : fate-by us list gone live (getD ids j 0) (getD (channel-cells rs cs gs ms) j no-channel)
+      ≡ (if ends then none else some (channel (getD rs j 0) (getD cs j 0) admitted joined))
+  here = ap (fate-by us list gone live (getD ids j 0)) (channel-at rs cs gs ms j a b d f) ∙ rw (t, l) (fated us list gone live (getD ids j 0) (getD rs j 0) (getD cs j 0) (getD gs j 0) (getD ms j 0) m e)
 
--- ---- one place: what the code found is its fate
-pub fated : (f : ℕ → Channel → Option Channel) (c : ℕ) (at ch : Channel) → ch ≡ at → (r r' : Fate) → fateOf r ≡ f c ch → r ≡ r' → f c at ≡ fateOf r'
-fated f c at ch e r r' z q = ap (f c) (sym e) ∙ sym z ∙ ap fateOf q
+  stored : channel-cells rs cs (set gs j admitted) (set ms j joined) ≡ set (channel-cells rs cs gs ms) j (channel (getD rs j 0) (getD cs j 0) admitted joined)
+  stored = rw (set-getD rs j 0, set-getD cs j 0) at (channel-set rs cs gs ms j (getD rs j 0) (getD cs j 0) admitted joined)
+
+  pub place-ends : (ids' rs' cs' gs' ms' : List ℕ) → ends ≡ true → channels-of ids' rs' cs' gs' ms' ≡ end-channel (channels-of ids rs cs gs ms) j
+      → Turns no-channel (anywhere (fate-by us list gone live)) j ids (channel-cells rs cs gs ms) ids' (channel-cells rs' cs' gs' ms')
+  place-ends ids' rs' cs' gs' ms' r w = channel-ends (fate-by us list gone live) j ids rs cs gs ms ids' rs' cs' gs' ms' n (here ∙ rw r refl) w
+
+  pub place-stays : (gs' ms' : List ℕ) → ends ≡ false → (gs' ≡ set gs j admitted) × (ms' ≡ set ms j joined)
+      → Turns no-channel (anywhere (fate-by us list gone live)) j ids (channel-cells rs cs gs ms) ids (channel-cells rs cs gs' ms')
+  place-stays gs' ms' r w =
+      channel-stays (fate-by us list gone live) j ids rs cs gs ms ids rs cs gs' ms' n (channel (getD rs j 0) (getD cs j 0) admitted joined) (here ∙ rw r refl) (ap₂ (channel-cells rs cs) (w .0) (w .1) ∙ stored)
 
 -- ---- all of them
 pub channels-start : (f : ℕ → Channel → Option Channel) (ids rs cs gs ms : List ℕ) → length ids ≡ 128 → length rs ≡ 128 → length cs ≡ 128 → length gs ≡ 128 → length ms ≡ 128

@@ -1,2 +1,3 @@
 pub mod StoreLaws
 pub mod ChannelLaws
+pub mod ListedFates

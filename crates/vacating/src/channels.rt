@@ -1,106 +1,71 @@
 // The channels once some users have left, and some connections.
 ghost use mathlib.Core.Path.{_≡_};
-ghost use mathlib.Core.List.{List};
-ghost use Prim.Native.Nat.{ℕ, _<_};
-ghost use Rattle.places.specs.Places.{find as findIn};
+ghost use Prim.Native.Nat.{_<_};
+ghost use lib.ListN.{getD, set};
+ghost use Rattle.places.specs.Sets.{member, marked, with, meet, links, seats};
 ghost use Rattle.places.specs.Swept.{Turns, anywhere};
 ghost use Rattle.domain.specs.Cells.{no-channel};
-ghost use Rattle.domain.specs.Tables.{users-of, channels-of, channel-cells, marked as markedOf, sweep-channels};
-ghost use Rattle.domain.specs.Channels.{places as placesOf, private as privateOf};
-ghost use Rattle.domain.specs.Leaving.{fate as fateIn};
-ghost use Rattle.vacating.specs.Fates.{fateOf, gone-at};
-use domain::channel::Channel;
-use domain::channel::Kind;
+ghost use Rattle.domain.specs.Tables.{users-of, hosts, channels-of, channel-cells, sweep-channels};
+ghost use Rattle.vacating.specs.Fates.{fate-by, ends-by, guests-left, marks-left};
 
-// A channel ends, or is then this.
-pub enum Fate {
-    Ends,
-    Stays(Channel),
-}
-
-// A channel with these marks; a static or assigned one with nobody joined ends.
-fn marked(ch: Channel, m: u16) -> Fate
-    ensures { λ r. ⌜ fateOf r ≡ markedOf ch m ⌝ }
+// Channel c is the user's id of one of those listed. Most ids are among the 64 that have a mark.
+fn is_listed(low: u64, list: &[u16], c: u16) -> bool
+    requires { ⌜ low ≡ marked 1000 (now list) ⌝ }
+    ensures { λ r. ⌜ r ≡ member c (now (list .entry)) ⌝ }
 {
-    let lapses = states::channel::lapses(states::channel::kind_of(ch));
-    if lapses {
-        if m == 0 {
-            return Fate::Ends;
-        }
+    if (1000 < c) & (c < 1065) {
+        return masks::has(low, (c - 1001) as u8);
     }
-    Fate::Stays(Channel {
-        role: ch.role,
-        chair: ch.chair,
-        guests: ch.guests,
-        marks: m,
-    })
+    columns::member(list, c)
 }
 
-// A private channel with these admitted: a connection stays joined only with the manager g or one of them. Where none is joined none is sought.
-fn private(names: &[u16; 64], homes: &[u8; 64], ch: Channel, g: u8, guests: u64, m: u16) -> Channel
-    ensures { λ r. ⌜ r ≡ privateOf (users-of (now (names .entry)) (now (homes .entry))) ch g guests m ⌝ }
+// A channel of this role and chair, whose id is listed or not, ends; m are the connections that are left to it. All is looked at, with no branch
+// between.
+fn ends(role: u8, chair: u8, listed: bool, gone: u64, m: u16) -> bool
+    ensures { λ r. ⌜ r ≡ ends-by role chair listed gone m ⌝ }
+{
+    ((role == 2) & listed)
+        | ((role == 3) & masks::has(gone, chair))
+        | ((role != 2) & (role != 3) & (m == 0))
+}
+
+// The connections of a channel that stays: a private one's only with the manager or an admitted user. Where none is joined none is sought.
+fn links_left(names: &[u16; 64], homes: &[u8; 64], chair: u8, guests: u64, m: u16) -> u16
+    ensures { λ r. ⌜ r ≡ meet links m (hosts (users-of (now (names .entry)) (now (homes .entry))) (with seats guests chair)) ⌝ }
 {
     if m == 0 {
-        return Channel {
-            role: ch.role,
-            chair: ch.chair,
-            guests: guests,
-            marks: 0,
-        };
+        return 0;
     }
-    let held = tables::users::hosts(names, homes, masks::with_seat(guests, g));
-    Channel {
-        role: ch.role,
-        chair: ch.chair,
-        guests: guests,
-        marks: masks::common_links(m, held),
-    }
+    masks::common_links(
+        m,
+        tables::users::hosts(names, homes, masks::with_seat(guests, chair)),
+    )
 }
 
-// User c is one of those listed: its place is among theirs. Most channels' ids are not listed, and no place is sought.
-fn user_gone(names: &[u16; 64], list: &[u16], c: u16) -> bool
-    ensures { λ r. ⌜ ((homes : List ℕ) → r ≡ gone-at (placesOf (users-of (now (names .entry)) homes) (now (list .entry))) (findIn (now (names .entry)) c)) ⌝ }
-{
-    // How many places there are: an id that is found nowhere is at that number.
-    let all = names[..].len();
-    if !columns::member(list, c) {
-        return false;
-    }
-    seeking::find(names, c) < all
-}
-
-// What becomes of channel c; `gone` are the places of those listed.
-fn fate_of(
+// The channel at place j stays: its connections, and of a private one the admitted.
+fn stay(
     names: &[u16; 64],
     homes: &[u8; 64],
-    list: &[u16],
+    role: u8,
+    chairs: &[u8; 128],
+    guests: &mut [u64; 128],
+    marks: &mut [u16; 128],
     gone: u64,
-    live: u16,
-    c: u16,
-    ch: Channel,
-) -> Fate
-    requires { ⌜ gone ≡ placesOf (users-of (now names) (now homes)) (now list) ⌝ }
-    ensures { λ r. ⌜ fateOf r ≡ fateIn (users-of (now (names .entry)) (now (homes .entry))) gone live c ch ⌝ }
+    m: u16,
+    j: usize,
+)
+    requires { ⌜ j < 128 ⌝ }
+    ensures { λ _. ⌜ (now (guests .exit) ≡ set (now (guests .entry)) j (guests-left role (getD (now (guests .entry)) j 0) gone))
+        × (now (marks .exit) ≡ set (now (marks .entry)) j
+        (marks-left (users-of (now (names .entry)) (now (homes .entry))) role (getD (now (chairs .entry)) j 0) (guests-left role (getD (now (guests .entry)) j 0) gone) m)) ⌝ }
 {
-    let m = masks::common_links(ch.marks, live);
-    let k = states::channel::kind_of(ch);
-    match k {
-        Kind::Static => marked(ch, m),
-        Kind::User => {
-            if user_gone(names, list, c) {
-                return Fate::Ends;
-            }
-            marked(ch, m)
-        }
-        Kind::Private(g, guests) => {
-            if masks::has(gone, g) {
-                return Fate::Ends;
-            }
-            let left = masks::other_seats(guests, gone);
-            Fate::Stays(private(names, homes, ch, g, left, m))
-        }
-        Kind::Assigned => marked(ch, m),
+    if role == 3 {
+        let let_in = masks::other_seats(guests[j], gone);
+        guests[j] = let_in;
+        marks[j] = links_left(names, homes, chairs[j], let_in, m);
+        return;
     }
+    marks[j] = m;
 }
 
 // What becomes of the channel at place j.
@@ -113,32 +78,35 @@ fn leave_place(
     guests: &mut [u64; 128],
     marks: &mut [u16; 128],
     list: &[u16],
+    low: u64,
     gone: u64,
     live: u16,
     j: usize,
 )
-    requires { ⌜ (j < 128) × (gone ≡ placesOf (users-of (now names) (now homes)) (now list)) ⌝ }
-    ensures { λ _. ⌜ Turns no-channel (anywhere (fateIn (users-of (now (names .entry)) (now (homes .entry))) gone live)) j
+    requires { ⌜ (j < 128) × (low ≡ marked 1000 (now list)) ⌝ }
+    ensures { λ _. ⌜ Turns no-channel (anywhere (fate-by (users-of (now (names .entry)) (now (homes .entry))) (now (list .entry)) gone live)) j
         (now (ids .entry)) (channel-cells (now (roles .entry)) (now (chairs .entry)) (now (guests .entry)) (now (marks .entry)))
         (now (ids .exit)) (channel-cells (now (roles .exit)) (now (chairs .exit)) (now (guests .exit)) (now (marks .exit))) ⌝ }
 {
+    // How long the columns are: a cell is read where all are long enough.
+    let n1 = roles[..].len();
+    let n2 = chairs[..].len();
+    let n3 = guests[..].len();
+    let n4 = marks[..].len();
     let c = ids[j];
     if c == 0 {
         return;
     }
-    let ch = tables::channels::channel_at(roles, chairs, guests, marks, j);
-    let f = fate_of(names, homes, list, gone, live, c, ch);
-    match f {
-        Fate::Ends => {
-            tables::channels::end_channel(ids, roles, chairs, guests, marks, j);
-        }
-        Fate::Stays(kept) => {
-            tables::channels::set_channel(roles, chairs, guests, marks, j, kept);
-        }
+    let role = roles[j];
+    let m = masks::common_links(marks[j], live);
+    if ends(role, chairs[j], is_listed(low, list, c), gone, m) {
+        tables::channels::end_channel(ids, roles, chairs, guests, marks, j);
+        return;
     }
+    stay(names, homes, role, chairs, guests, marks, gone, m, j);
 }
 
-// The users listed leave and the connections `live` remain.
+// The users listed leave, `gone` are places, and the connections `live` remain.
 pub fn leave(
     names: &[u16; 64],
     homes: &[u8; 64],
@@ -148,13 +116,14 @@ pub fn leave(
     guests: &mut [u64; 128],
     marks: &mut [u16; 128],
     list: &[u16],
+    gone: u64,
     live: u16,
 )
     ensures { λ _. ⌜ channels-of (now (ids .exit)) (now (roles .exit)) (now (chairs .exit)) (now (guests .exit)) (now (marks .exit))
-        ≡ sweep-channels (fateIn (users-of (now (names .entry)) (now (homes .entry))) (placesOf (users-of (now (names .entry)) (now (homes .entry))) (now (list .entry))) live)
+        ≡ sweep-channels (fate-by (users-of (now (names .entry)) (now (homes .entry))) (now (list .entry)) gone live)
         (channels-of (now (ids .entry)) (now (roles .entry)) (now (chairs .entry)) (now (guests .entry)) (now (marks .entry))) ⌝ }
 {
-    let gone = tables::users::places_of(names, list);
+    let low = columns::id_marks(list);
     // How long the columns are: what the loop keeps.
     let n1 = ids[..].len();
     let n2 = roles[..].len();
@@ -172,6 +141,7 @@ pub fn leave(
             guests,
             marks,
             list,
+            low,
             gone,
             live,
             j,
