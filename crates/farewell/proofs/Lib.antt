@@ -1,3 +1,5 @@
 pub mod Rounds
 pub mod Parts
 pub mod Quiet
+pub mod Marking
+pub mod Least

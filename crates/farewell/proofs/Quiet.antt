@@ -1,26 +1,23 @@
 -- Nothing is told of a channel that does not end, or of a token that is not being given.
 use mathlib.Core.Path.{_≡_, refl, sym, ap, _∙_}
 use mathlib.Core.Bool.{Bool, true, false, _&&_}
-use mathlib.Core.List.{List, [], _∷_, _++_}
-use Prim.Native.Nat.{ℕ, zero, suc, _/_, _%_, _≤_, _<_}
-use native.Mathlib.Omega.{arith}
+use mathlib.Core.List.{List, [], _∷_}
+use Prim.Native.Nat.{ℕ, zero, suc, _%_, _<_}
 use lib.Dec.{eqb, ltb}
 use lib.ListN.{length, getD, List·getD-eq-default}
 use borrow.Author.Tests.{ne-eqb, ltb-true, ltb-false}
-use Rattle.places.specs.Sets.{if_then_else_, keep, each, has}
+use Rattle.places.specs.Sets.{if_then_else_, each, has}
 use Rattle.places.specs.Places.{At, find, load, inOrder, picked}
-use Rattle.places.proofs.Kept.{picked-length, each-picked, each-listed, each-none}
+use Rattle.places.proofs.Kept.{picked-length, each-picked, each-none}
 use Rattle.records.specs.Records.{Sent, records}
-use Rattle.domain.specs.declared.channel.Kind.{Kind}
 use Rattle.domain.specs.declared.channel.Channel.{Channel}
 use Rattle.domain.specs.declared.channel.Kind.the-variants.{Static, User, Private, Assigned}
-use Rattle.domain.specs.declared.token.Holding.{Holding}
-use Rattle.domain.specs.declared.token.Holding.the-variants.{Free, Grabbed, Inhibited, Giving, Given}
+use Rattle.domain.specs.declared.token.Holding.the-variants.{Free, Grabbed, Inhibited, Given}
 use Rattle.domain.specs.declared.token.Token.{Token}
 use Rattle.domain.specs.Cells.{no-channel, no-token, kind, hold}
-use Rattle.domain.specs.Tables.{Users, Channels, Tokens, channel-cells, channels-of, token-cells, tokens-of, state}
+use Rattle.domain.specs.Tables.{Users, channel-cells, channels-of, token-cells, tokens-of, state}
 use Rattle.domain.specs.Leaving.{ended, returned}
-use Rattle.farewell.specs.Parts.{kind-at, ends-by, end-at, return-at}
+use Rattle.farewell.specs.Parts.{ends-by, ends-there, end-at, return-at}
 use Rattle.farewell.proofs.Rounds.{coming, coming-all}
 
 -- no cell is 3, also behind the end
@@ -30,6 +27,13 @@ none-is xs h j = go (ltb j (length xs)) refl
     go : (b : Bool) → ltb j (length xs) ≡ b → eqb (getD xs j 0) 3 ≡ false
     go true e = ne-eqb (getD xs j 0) 3 (h j (ltb-true j (length xs) e))
     go false e = rw (List·getD-eq-default xs 0 (ltb-false j (length xs) e)) refl
+
+-- of ids that bring nothing unless their places pass, those that pass are all that count
+coming-picked : (f : ℕ → List Sent) (test : ℕ → Bool) (ids : List ℕ) → ((x j : ℕ) → find ids x ≡ At j → test j ≡ false → f x ≡ [])
+    → coming f (length ids) 0 (picked test 0 ids) ≡ records (each f (inOrder ids))
+coming-picked f test ids silent =
+    ap (λ (n : ℕ). coming f n 0 (picked test 0 ids)) (sym (picked-length test 0 ids))
+    ∙ coming-all f (picked test 0 ids) ∙ ap records (sym (each-picked f test ids silent))
 
 -- ---- channels
 quiet-cell : (gone : ℕ) (rs cs gs ms : List ℕ) (j : ℕ) → ends-by gone (getD rs j 0) (getD cs j 0) ≡ false
@@ -53,9 +57,6 @@ quiet-kind us gone live c ch h = go (eqb (ch .role) 2) (eqb (ch .role) 3) (eqb (
     go false false true e = refl
     go false false false e = refl
 
-abbrev pub ends-there : (gone : ℕ) (roles chairs : List ℕ) → ℕ → Bool
-ends-there gone roles chairs j = ends-by gone (getD roles j 0) (getD chairs j 0)
-
 module _ (us : Users) (ids roles chairs guests marks : List ℕ) (gone live : ℕ) where
   abbrev end-of : ℕ → List Sent
   end-of = end-at us (channels-of ids roles chairs guests marks) gone live
@@ -64,9 +65,10 @@ module _ (us : Users) (ids roles chairs guests marks : List ℕ) (gone live : �
   unfolding load
   quiet-end c j e h = rw e (quiet-kind us gone live c (getD (channel-cells roles chairs guests marks) j no-channel) (quiet-cell gone roles chairs guests marks j h))
 
-  -- only those count that end
-  pub ends-listed : each end-of (inOrder ids) ≡ each end-of (inOrder (keep (ltb 0) (picked (ends-there gone roles chairs) 0 ids)))
-  ends-listed = each-listed end-of (ends-there gone roles chairs) ids quiet-end
+  -- only those count that end: they are gone over, or all are
+  pub ends-coming : (all : Bool) → coming end-of (length ids) 0 (if all then ids else picked (ends-there gone roles chairs) 0 ids) ≡ records (each end-of (inOrder ids))
+  ends-coming true = coming-all end-of ids
+  ends-coming false = coming-picked end-of (ends-there gone roles chairs) ids quiet-end
 
   pub ends-none : ((j : ℕ) → j < length roles → getD roles j 0 ≡ 3 → ⊥) → each end-of (inOrder ids) ≡ []
   ends-none h = each-none end-of (ends-there gone roles chairs) ids quiet-end (λ j. rw (none-is roles h j) refl)
@@ -102,9 +104,7 @@ module _ (us : Users) (keys modes values : List ℕ) (gone : ℕ) where
 
   -- only those count that are being given
   pub returns-coming : coming return-of (length keys) 0 (picked (given-there modes) 0 keys) ≡ records (each return-of (inOrder keys))
-  returns-coming =
-      ap (λ (n : ℕ). coming return-of n 0 (picked (given-there modes) 0 keys)) (sym (picked-length (given-there modes) 0 keys))
-      ∙ coming-all return-of (picked (given-there modes) 0 keys) ∙ ap records (sym (each-picked return-of (given-there modes) keys still-return))
+  returns-coming = coming-picked return-of (given-there modes) keys still-return
 
   pub returns-none : ((j : ℕ) → j < length modes → getD modes j 0 ≡ 3 → ⊥) → each return-of (inOrder keys) ≡ []
   returns-none h = each-none return-of (given-there modes) keys still-return (none-is modes h)

@@ -3,7 +3,8 @@ use Prim.Native.Nat.{ℕ}
 use mathlib.Core.Bool.{Bool, _&&_}
 use mathlib.Core.List.{List, []}
 use lib.Dec.{eqb}
-use Rattle.places.specs.Sets.{if_then_else_, null, each, has}
+use lib.ListN.{getD}
+use Rattle.places.specs.Sets.{if_then_else_, null, has}
 use Rattle.places.specs.Places.{find, load}
 use Rattle.messages.specs.Named.{DUin}
 use Rattle.records.specs.Records.{Sent, tell}
@@ -23,6 +24,10 @@ kind-at cs c = kind (load (cs .cells) (find (cs .ids) c) no-channel)
 -- a private channel, role 3, ends where its manager leaves
 abbrev pub ends-by : (gone role chair : ℕ) → Bool
 ends-by gone role chair = eqb role 3 && has gone chair
+
+-- the channel at place j ends
+abbrev pub ends-there : (gone : ℕ) (roles chairs : List ℕ) → ℕ → Bool
+ends-there gone roles chairs j = ends-by gone (getD roles j 0) (getD chairs j 0)
 
 -- CDin for channel c, and TVcf for token k
 abbrev pub end-at : (us : Users) (cs : Channels) (gone live c : ℕ) → List Sent

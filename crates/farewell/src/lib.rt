@@ -1,12 +1,10 @@
 // The records that tell of users who leave: DUin by connection, CDin by channel, TVcf by token.
 ghost use mathlib.Core.Path.{_≡_};
-ghost use mathlib.Core.Bool.{_&&_};
-ghost use mathlib.Core.List.{[], _∷_, _++_};
-ghost use Prim.Native.Nat.{ℕ, _+_, _<_, _≤_};
-ghost use lib.Dec.{ltb};
-ghost use lib.ListN.{length, take, getD};
-ghost use Rattle.places.specs.Sets.{if_then_else_, keep, each};
-ghost use Rattle.places.specs.Places.{inOrder, picked};
+ghost use mathlib.Core.List.{List, [], _∷_, _++_};
+ghost use Prim.Native.Nat.{ℕ, _+_, _-_, _<_, _≤_};
+ghost use lib.ListN.{length, take};
+ghost use Rattle.places.specs.Sets.{if_then_else_, each, marked};
+ghost use Rattle.places.specs.Places.{next as nextIn, inOrder, picked};
 ghost use Rattle.messages.specs.Named.{TVcf, no-such-user};
 ghost use Rattle.records.specs.Records.{to, records as recordsOf};
 ghost use Rattle.records.specs.Out.{Puts};
@@ -15,7 +13,8 @@ ghost use Rattle.domain.specs.declared.token.Holding.the-variants.{Giving};
 ghost use Rattle.domain.specs.Tables.{users-of, channels-of, tokens-of, domain-of, name, link};
 ghost use Rattle.domain.specs.Tokens.{status as statusOf, lose as loseOf};
 ghost use Rattle.domain.specs.Leaving.{ended, returned, farewell as farewellOf};
-ghost use Rattle.farewell.specs.Parts.{parting, kind-at, ends-by, end-at, return-at};
+ghost use Rattle.farewell.specs.Parts.{parting, kind-at, ends-by, ends-there, end-at, return-at};
+ghost use Rattle.farewell.specs.Endings.{Marks, NextMark};
 use compose::Confirm;
 use domain::channel::Kind;
 use domain::numbers::Result;
@@ -93,42 +92,6 @@ fn put_ended(
     }
 }
 
-// CDin for each of some channels, ascending.
-fn put_listed(
-    out: &mut [u8],
-    from: usize,
-    names: &[u16; 64],
-    homes: &[u8; 64],
-    ids: &[u16; 128],
-    roles: &[u8; 128],
-    chairs: &[u8; 128],
-    guests: &[u64; 128],
-    marks: &[u16; 128],
-    gone: u64,
-    live: u16,
-    ending: &[u16],
-) -> usize
-    requires { ⌜ (from ≤ 4096) × (length (now ending) ≤ 128) ⌝ }
-    ensures { λ r. ⌜ (Puts (now (out .entry)) from (recordsOf (each (end-at (users-of (now (names .entry)) (now (homes .entry)))
-        (channels-of (now (ids .entry)) (now (roles .entry)) (now (chairs .entry)) (now (guests .entry)) (now (marks .entry))) gone live)
-        (inOrder (now (ending .entry))))) (now (out .exit)) r) × (r ≤ from + 14336) ⌝ }
-{
-    let mut at = from;
-    let mut low: u16 = 0;
-    let mut left = ending.len();
-    while 0 < left {
-        let c = columns::next(ending, low);
-        if c == 0 {
-            return at;
-        }
-        let k = kind_of(ids, roles, chairs, guests, marks, c);
-        at = put_ended(out, at, names, homes, gone, live, c, k);
-        low = c;
-        left -= 1;
-    }
-    at
-}
-
 // A channel of this role and manager's place ends. Both are looked at, with no branch between them.
 fn ends(role: u8, chair: u8, gone: u64) -> bool
     ensures { λ r. ⌜ r ≡ ends-by gone role chair ⌝ }
@@ -136,56 +99,94 @@ fn ends(role: u8, chair: u8, gone: u64) -> bool
     (role == 3) & masks::has(gone, chair)
 }
 
-// A place counts if its channel ends and its id is not 0.
-fn counts(ends: bool, c: u16) -> usize
-    ensures { λ r. ⌜ (r ≡ (if ends && ltb 0 c then 1 else 0)) × (r ≤ 1) ⌝ }
-{
-    if ends & (0 < c) { 1 } else { 0 }
+// The channels that end, as marks of their ids: 1001 to 1064, and 1065 to 1128. Ids are given out from 1001 on, so that no other is met; yet
+// any contents are taken.
+struct Ending {
+    low: u64,
+    high: u64,
+    beyond: bool,
 }
 
-// The channel at place j behind the first n of the list. It is stored always, and counts where it ends: nobody can foresee which do.
-fn add_end(
-    ids: &[u16; 128],
-    roles: &[u8; 128],
-    chairs: &[u8; 128],
-    gone: u64,
-    j: usize,
-    ending: &mut [u16; 128],
-    n: usize,
-) -> usize
-    requires { ⌜ (j < 128) × (n < 128) ⌝ }
-    ensures { λ r. ⌜ (take r (now (ending .exit)) ≡ take n (now (ending .entry))
-        ++ (if ends-by gone (getD (now (roles .entry)) j 0) (getD (now (chairs .entry)) j 0) && ltb 0 (getD (now (ids .entry)) j 0)
-        then getD (now (ids .entry)) j 0 ∷ [] else []))
-        × (r ≤ n + 1) × (r ≤ length (now (ending .exit))) ⌝ }
+// The id of a channel, where it ends; 0 is none. A choice, and no branch.
+fn if_ends(ends: bool, c: u16) -> u16
+    ensures { λ r. ⌜ r ≡ (if ends then c else 0) ⌝ }
 {
-    // How long the list is: there is room for n + 1 ids.
-    let room = ending[..].len();
-    let c = ids[j];
-    ending[n] = c;
-    n + counts(ends(roles[j], chairs[j], gone), c)
+    if ends { c } else { 0 }
 }
 
-// The channels that end, in the order of their places: so many. Only a private channel, role 3, can end.
-fn list_ends(
-    ids: &[u16; 128],
-    roles: &[u8; 128],
-    chairs: &[u8; 128],
-    gone: u64,
-    ending: &mut [u16; 128],
-) -> usize
-    ensures { λ r. ⌜ (take r (now (ending .exit)) ≡ keep (ltb 0) (picked (λ j. ends-by gone (getD (now (roles .entry)) j 0) (getD (now (chairs .entry)) j 0)) 0 (now (ids .entry))))
-        × (r ≤ 128) × (r ≤ length (now (ending .exit))) ⌝ }
+// The mark of an id among the 64 above `low`: none where it is not one of them. A choice too.
+fn mark(low: u16, c: u16) -> u64
+    requires { ⌜ low + 64 ≤ 65535 ⌝ }
+    ensures { λ r. ⌜ r ≡ marked low (c ∷ []) ⌝ }
+{
+    let here = (low < c) & (c <= low + 64);
+    if here {
+        1u64 << ((c - low - 1) % 64)
+    } else {
+        0
+    }
+}
+
+// With channel c; 0 is none.
+fn with_end(e: Ending, c: u16) -> Ending
+    ensures { λ r. ⌜ ((xs : List ℕ) → Marks xs e → Marks (xs ++ c ∷ []) r) ⌝ }
+{
+    Ending {
+        low: masks::all_seats(e.low, mark(1000, c)),
+        high: masks::all_seats(e.high, mark(1064, c)),
+        beyond: e.beyond | ((0 < c) & ((c < 1001) | (1128 < c))),
+    }
+}
+
+// The channels that end. Only a private channel, role 3, can end.
+fn find_ends(ids: &[u16; 128], roles: &[u8; 128], chairs: &[u8; 128], gone: u64) -> Ending
+    ensures { λ r. ⌜ Marks (picked (ends-there gone (now (roles .entry)) (now (chairs .entry))) 0 (now (ids .entry))) r ⌝ }
 {
     // How long the column is: a role for each id.
     let all = ids[..].len();
-    let mut n = 0;
+    let mut e = Ending {
+        low: 0,
+        high: 0,
+        beyond: false,
+    };
     let mut j = columns::cell_from(roles, 0, 3);
     while j < 128 {
-        n = add_end(ids, roles, chairs, gone, j, ending, n);
+        e = with_end(e, if_ends(ends(roles[j], chairs[j], gone), ids[j]));
         j = columns::cell_from(roles, j + 1, 3);
     }
-    n
+    e
+}
+
+// The first number from `from` on that either mask has, the second from 64 on; 128 where there is none.
+fn next_mark(low: u64, high: u64, from: usize) -> usize
+    ensures { λ r. ⌜ ((xs : List ℕ) → low ≡ marked 1000 xs → high ≡ marked 1064 xs → NextMark xs from r) ⌝ }
+{
+    let q = masks::next_in(low, from);
+    if q < 64 {
+        return q;
+    }
+    if from < 64 {
+        return 64 + masks::next_in(high, 0);
+    }
+    64 + masks::next_in(high, from - 64)
+}
+
+// How far an id stands behind 1000; 0 where it does not.
+fn above(x: u16) -> usize
+    ensures { λ r. ⌜ r ≡ x - 1000 ⌝ }
+{
+    if x < 1000 { 0 } else { (x - 1000) as usize }
+}
+
+// The least id above `low` of the channels that end, or 0: by their marks, or else of all channels.
+fn next_end(ids: &[u16; 128], e: Ending, low: u16) -> u16
+    ensures { λ r. ⌜ ((xs : List ℕ) → Marks xs e → r ≡ nextIn low 0 (if e .beyond then now (ids .entry) else xs)) ⌝ }
+{
+    if e.beyond {
+        return columns::next(ids, low);
+    }
+    let q = next_mark(e.low, e.high, above(low));
+    if q < 128 { 1001 + q as u16 } else { 0 }
 }
 
 // CDin for each channel that ends, ascending.
@@ -207,22 +208,21 @@ fn put_ends(
         (channels-of (now (ids .entry)) (now (roles .entry)) (now (chairs .entry)) (now (guests .entry)) (now (marks .entry))) gone live)
         (inOrder (now (ids .entry))))) (now (out .exit)) r) × (r ≤ from + 14336) ⌝ }
 {
-    let mut ending = [0u16; 128];
-    let n = list_ends(ids, roles, chairs, gone, &mut ending);
-    put_listed(
-        out,
-        from,
-        names,
-        homes,
-        ids,
-        roles,
-        chairs,
-        guests,
-        marks,
-        gone,
-        live,
-        &ending[..n],
-    )
+    let e = find_ends(ids, roles, chairs, gone);
+    let mut at = from;
+    let mut low: u16 = 0;
+    let mut left = ids[..].len();
+    while 0 < left {
+        let c = next_end(ids, e, low);
+        if c == 0 {
+            return at;
+        }
+        let k = kind_of(ids, roles, chairs, guests, marks, c);
+        at = put_ended(out, at, names, homes, gone, live, c, k);
+        low = c;
+        left -= 1;
+    }
+    at
 }
 
 // The same; most often no channel is private, role 3, and none ends.

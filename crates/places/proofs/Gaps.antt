@@ -32,11 +32,11 @@ module _ (low : ℕ) where
   unfolding marked
   is-marked m xs l h = is-those 64 m _ l h
 
-  marked-lt : (xs : List ℕ) → marked low xs < 2 ^ 64
+  pub marked-lt : (xs : List ℕ) → marked low xs < 2 ^ 64
   unfolding marked
   marked-lt xs = those-lt 64 _
 
-  marked-append : (xs ys : List ℕ) → bitOr (marked low xs) (marked low ys) ≡ marked low (xs ++ ys)
+  pub marked-append : (xs ys : List ℕ) → bitOr (marked low xs) (marked low ys) ≡ marked low (xs ++ ys)
   marked-append xs ys = is-marked _ (xs ++ ys) (or-lt 64 _ _ (marked-lt xs) (marked-lt ys)) (λ k l.
       has-or (marked low xs) (marked low ys) k ∙ ap₂ (λ (p q : Bool). p || q) (has-marked xs k l) (has-marked ys k l) ∙ sym (member-append (low + 1 + k) xs ys))
 

@@ -1,30 +1,26 @@
 -- Ids in order, where only some of them bring anything: these stand in a column of their own and are taken from there.
 use mathlib.Core.Path.{_≡_, refl, sym, ap, _∙_}
-use mathlib.Core.Bool.{Bool, true, false, _&&_, true≢false, false≢true}
-use mathlib.Core.List.{List, [], _∷_, _++_, append-nil, append-assoc}
-use Prim.Native.Nat.{ℕ, zero, suc, _+_, _-_, _≤_, _<_, zero-le}
-use native.Mathlib.Numerals.{add-one}
+use mathlib.Core.Bool.{Bool, true, false, true≢false, false≢true}
+use mathlib.Core.List.{List, [], _∷_, _++_}
+use Prim.Native.Nat.{ℕ, zero, suc, _+_, _≤_, _<_}
 use native.Mathlib.Omega.{arith}
 use native.Mathlib.Nat.{le-refl, add-zero, zero-add, add-suc, suc-add}
 use lib.Dec.{ltb}
-use lib.ListN.{length, getD, set, take, drop, drop-of-length-le}
-use lib.Seq.{drop-cons, take-set-le, take-suc-set}
-use borrow.Author.Tests.{lt-ltb}
-use Rattle.places.specs.Sets.{if_then_else_, keep, any, each, member}
-use Rattle.places.specs.Places.{Place, At, Nowhere, find, next, rising, inOrder, picked}
-use Rattle.places.proofs.Bools.{and-parts}
+use lib.ListN.{length, getD}
+use Rattle.places.specs.Sets.{if_then_else_, any, each, member}
+use Rattle.places.specs.Places.{At, find, next, rising, inOrder, picked}
 use Rattle.places.proofs.Rows.{in-list, find-holds}
 use Rattle.places.proofs.Answers.{stands-found, found-somewhere}
-use Rattle.places.proofs.Members.{member-at, member-where, member-keep}
+use Rattle.places.proofs.Members.{member-at, member-where}
 use Rattle.places.proofs.Order.{keep-le, above, above-less, next-of, next-above, next-there}
-use Rattle.places.proofs.Turns.{keep-append, rising-turn, rising-end}
+use Rattle.places.proofs.Turns.{rising-turn, rising-end}
 
 -- ---- the next id is the least above `low`
 module _ (low : ℕ) (xs : List ℕ) where
-  next-least : (z : ℕ) → low < z → member z xs ≡ true → (low < next low 0 xs) × (next low 0 xs ≤ z)
+  pub next-least : (z : ℕ) → low < z → member z xs ≡ true → (low < next low 0 xs) × (next low 0 xs ≤ z)
   next-least z h m = next-of low z 0 xs (λ n. absurd (n refl)) h m
 
-  next-is-there : (next low 0 xs ≡ 0 → ⊥) → (low < next low 0 xs) × (member (next low 0 xs) xs ≡ true)
+  pub next-is-there : (next low 0 xs ≡ 0 → ⊥) → (low < next low 0 xs) × (member (next low 0 xs) xs ≡ true)
   next-is-there n = (next-above low 0 xs (λ z. absurd (z refl)) n, next-there low 0 xs n)
 
   rising-none : ((z : ℕ) → low < z → member z xs ≡ true → ⊥) → (n : ℕ) → rising n low xs ≡ []
@@ -110,7 +106,7 @@ module _ (test : ℕ → Bool) where
   pub picked-at : (ids : List ℕ) (j : ℕ) → getD (picked test 0 ids) j 0 ≡ (if test j then getD ids j 0 else 0)
   picked-at ids j = rw (zero-add j) at (picked-from 0 ids j)
 
--- where every other id brings nothing, these are all that count, at their own places or one behind the other
+-- where every other id brings nothing, these are all that count, at their own places
 module _ {B : Type 0} (f : ℕ → List B) (test : ℕ → Bool) (ids : List ℕ) (silent : (x j : ℕ) → find ids x ≡ At j → test j ≡ false → f x ≡ []) where
   abbrev those-picked : List ℕ
   those-picked = picked test 0 ids
@@ -140,92 +136,7 @@ module _ {B : Type 0} (f : ℕ → List B) (test : ℕ → Bool) (ids : List ℕ
   pub each-picked : each f (inOrder ids) ≡ each f (inOrder those-picked)
   each-picked = each-same f ids those-picked is-there is-silent
 
-  pub each-listed : each f (inOrder ids) ≡ each f (inOrder (keep (ltb 0) those-picked))
-  each-listed =
-      each-same f ids (keep (ltb 0) those-picked)
-      (λ x h m. is-there x h (and-parts (ltb 0 x) (member x those-picked) (sym (member-keep (ltb 0) x those-picked) ∙ m) .1))
-      (λ x h m n. is-silent x h m (sym (rw (lt-ltb 0 x h) at (member-keep (ltb 0) x those-picked)) ∙ n))
-
   pub each-none : ((j : ℕ) → test j ≡ false) → each f (inOrder ids) ≡ []
   unfolding each inOrder rising member any
   each-none none =
       each-same f ids [] (λ x h m. absurd (false≢true m)) (λ x h m n. let r = place-of x h m in silent x (r .0) (r .1) (none (r .0)))
-
--- ---- a list with one id more, or as it was: an id is stored behind the first n, and counts or not
-pub one-more : (xs : List ℕ) (n x r : ℕ) (b : Bool) → n < length xs → r ≡ (if b then 1 else 0) → take (n + r) (set xs n x) ≡ take n xs ++ (if b then x ∷ [] else [])
-one-more xs n x r true h e = rw (e, add-one n) (take-suc-set xs n x h)
-one-more xs n x r false h e = rw (e, add-zero n) (take-set-le n xs n x (le-refl n) ∙ sym (append-nil (take n xs)))
-
--- ---- a loop that lists them: at place j the first n of `list` are those before
-pub record Listing (test : ℕ → Bool) (ids list : List ℕ) (n j : ℕ) : Type 0 where
-  pub few : n ≤ j
-  pub within : j ≤ length ids
-  pub room : n ≤ length list
-  pub left : keep (ltb 0) (picked test 0 ids) ≡ take n list ++ keep (ltb 0) (drop j (picked test 0 ids))
-
-module _ (test : ℕ → Bool) (ids : List ℕ) (j : ℕ) where
-  one-place : j < length ids → keep (ltb 0) (drop j (picked test 0 ids)) ≡ keep (ltb 0) ((if test j then getD ids j 0 else 0) ∷ []) ++ keep (ltb 0) (drop (suc j) (picked test 0 ids))
-  one-place h =
-      rw (drop-cons (picked test 0 ids) j 0 (omega (arith, picked-length test 0 ids)), picked-at test ids j)
-      (keep-append (ltb 0) ((if test j then getD ids j 0 else 0) ∷ []) (drop (suc j) (picked test 0 ids)))
-
-  -- an id counts that passes and is not 0
-  one-id : keep (ltb 0) ((if test j then getD ids j 0 else 0) ∷ []) ≡ (if test j && ltb 0 (getD ids j 0) then getD ids j 0 ∷ [] else [])
-  unfolding keep
-  one-id = go (test j)
-    where
-      go : (b : Bool) → keep (ltb 0) ((if b then getD ids j 0 else 0) ∷ []) ≡ (if b && ltb 0 (getD ids j 0) then getD ids j 0 ∷ [] else [])
-      go true = refl
-      go false = refl
-
-  no-id : test j ≡ false → keep (ltb 0) ((if test j then getD ids j 0 else 0) ∷ []) ≡ []
-  no-id e = one-id ∙ rw e refl
-
-module _ {test : ℕ → Bool} {ids list : List ℕ} where
-  pub list-start : Listing test ids list 0 0
-  list-start = record { few = zero-le; within = zero-le; room = zero-le; left = refl }
-
-  pub list-end : {n j : ℕ} → Listing test ids list n j → length ids ≤ j → take n list ≡ keep (ltb 0) (picked test 0 ids)
-  unfolding keep
-  list-end {n} {j} s h =
-      let k : length (picked test 0 ids) ≤ j = omega (arith, picked-length test 0 ids) in
-      sym (s .left ∙ ap (λ (l : List ℕ). take n list ++ keep (ltb 0) l) (drop-of-length-le (picked test 0 ids) k) ∙ append-nil (take n list))
-
-  -- a place that does not pass is passed over, and so are many
-  past-one : {n j : ℕ} → Listing test ids list n j → j < length ids → test j ≡ false → Listing test ids list n (suc j)
-  past-one {n} {j} s h e =
-      record {
-        few = omega (arith, s .few);
-        within = h;
-        room = s .room;
-        left = s .left ∙ ap (λ (l : List ℕ). take n list ++ l) (one-place test ids j h ∙ ap (λ (l : List ℕ). l ++ keep (ltb 0) (drop (suc j) (picked test 0 ids))) (no-id test ids j e));
-      }
-
-  past : (k : ℕ) {n j : ℕ} → Listing test ids list n j → j + k ≤ length ids → ((i : ℕ) → j ≤ i → i < j + k → test i ≡ false) → Listing test ids list n (j + k)
-  past zero {n} {j} s h f = rw (add-zero j) s
-  past (suc k) {n} {j} s h f =
-      rw (add-suc j k, ← suc-add j k)
-      (past k (past-one s (omega arith) (f j (le-refl j) (omega arith))) (omega arith) (λ i a b. f i (omega arith) (omega arith)))
-
-  module _ {n j : ℕ} (s : Listing test ids list n j) where
-    -- a place looked at: its id comes where it passes and is not 0
-    pub list-turn : {ys : List ℕ} {r : ℕ} → j < length ids → take r ys ≡ take n list ++ (if test j && ltb 0 (getD ids j 0) then getD ids j 0 ∷ [] else [])
-        → r ≤ n + 1 → r ≤ length ys → Listing test ids ys r (j + 1)
-    list-turn {ys} {r} h e f k =
-        rw (add-one j)
-        (record {
-          few = omega (arith, s .few);
-          within = h;
-          room = k;
-          left = s .left ∙ ap (λ (l : List ℕ). take n list ++ l) (one-place test ids j h ∙ ap (λ (l : List ℕ). l ++ rest) (one-id test ids j))
-              ∙ sym (append-assoc (take n list) (if test j && ltb 0 (getD ids j 0) then getD ids j 0 ∷ [] else []) rest) ∙ ap (λ (l : List ℕ). l ++ rest) (sym e);
-        })
-      where
-        rest : List ℕ
-        rest = keep (ltb 0) (drop (suc j) (picked test 0 ids))
-
-    -- on to another place, where none between passes
-    pub list-on : {k : ℕ} → j ≤ k → k ≤ length ids → ((i : ℕ) → j ≤ i → i < k → test i ≡ false) → Listing test ids list n k
-    list-on {k} h l f =
-        let e : j + (k - j) ≡ k = omega arith in
-        rw e at (past (k - j) s (omega arith) (λ i p q. f i p (omega arith)))
