@@ -1,20 +1,33 @@
 // Leaving: the users listed in a DUrq, or all those of a connection that closes. They leave together, judged on the tables before.
 ghost use mathlib.Core.Path.{_≡_};
-ghost use mathlib.Core.Bool.{true, false};
+ghost use mathlib.Core.List.{List};
 ghost use Prim.Native.Nat.{ℕ, _%_, _≤_, _<_};
 ghost use lib.ListN.{length, take};
+ghost use Rattle.places.specs.Sets.{if_then_else_, without, once, links as allLinks};
+ghost use Rattle.places.specs.Places.{inOrder};
 ghost use Rattle.records.specs.Records.{records};
+ghost use Rattle.records.specs.Out.{Puts};
 ghost use Rattle.domain.specs.declared.Limits.{Limits};
-ghost use Rattle.domain.specs.Tables.{domain-of};
+ghost use Rattle.domain.specs.Tables.{users-of, domain-of};
 ghost use Rattle.domain.specs.Effects.{settle, answered};
-ghost use Rattle.domain.specs.Leaving.{farewell as farewellOf, leave as leaveOf, detach as detachOf, close as closeOf};
+ghost use Rattle.domain.specs.Leaving.{those-on, farewell as farewellOf, leave as leaveOf, detach as detachOf, close as closeOf};
+ghost use Rattle.leavers.specs.Lists.{Leaves};
 use domain::answer::Answer;
 use domain::numbers::Reason;
 use domain::numbers::Reply;
+use leavers::Leavers;
 
-// There is room for the records of those who leave. Only a short room is tried: 17,200 octets are enough for any.
-fn fits(
-    room: usize,
+// How much of the room the records are put into at first: all of a long one, since 17,200 octets are enough for any; nothing of a short one.
+fn tried(room: usize) -> usize
+    ensures { λ r. ⌜ (r ≤ room) × (room < 17200 → r ≡ 0) × (17200 ≤ room → r ≡ room) ⌝ }
+{
+    if room < 17200 { 0 } else { room }
+}
+
+// The records of those who leave, put together where there is room for them; how many octets they take. A short room is counted for in a first
+// turn, in which nothing is put.
+fn say(
+    out: &mut [u8],
     names: &[u16; 64],
     homes: &[u8; 64],
     ids: &[u16; 128],
@@ -30,22 +43,26 @@ fn fits(
     reason: u8,
     list: &[u16; 64],
     count: usize,
-) -> bool
-    requires { ⌜ count ≤ 64 ⌝ }
-    ensures { λ r. ⌜ ((l : Limits) (links : ℕ) → (r ≡ true → length (records (farewellOf (domain-of l links (now (names .entry)) (now (homes .entry)) (now (ids .entry)) (now (roles .entry))
+) -> usize
+    ensures { λ r. ⌜ ((l : Limits) (links : ℕ) → (r ≡ length (records (farewellOf (domain-of l links (now (names .entry)) (now (homes .entry)) (now (ids .entry)) (now (roles .entry))
         (now (chairs .entry)) (now (guests .entry)) (now (marks .entry)) (now (keys .entry)) (now (modes .entry)) (now (values .entry)))
-        gone live reason (take count (now (list .entry))))) ≤ room)
-        × (r ≡ false → room < length (records (farewellOf (domain-of l links (now (names .entry)) (now (homes .entry)) (now (ids .entry)) (now (roles .entry))
+        gone live reason (take count (now (list .entry))))))
+        × (r ≤ length (now (out .entry)) → Puts (now (out .entry)) 0 (records (farewellOf (domain-of l links (now (names .entry)) (now (homes .entry)) (now (ids .entry)) (now (roles .entry))
         (now (chairs .entry)) (now (guests .entry)) (now (marks .entry)) (now (keys .entry)) (now (modes .entry)) (now (values .entry)))
-        gone live reason (take count (now (list .entry))))))) ⌝ }
+        gone live reason (take count (now (list .entry))))) (now (out .exit)) r))
+        × (length (now (out .entry)) < r → now (out .exit) ≡ now (out .entry)) ⌝ }
 {
     // How long the columns are: so many records at most.
     let n = ids[..].len();
     let m = keys[..].len();
     let k = list[..].len();
-    if room < 17200 {
-        let total = farewell::farewell(
-            &mut [],
+    let room = out.len();
+    let mut to = tried(room);
+    let mut total = 0;
+    let mut again = true;
+    while again {
+        total = farewell::farewell(
+            &mut out[..to],
             names,
             homes,
             ids,
@@ -62,12 +79,13 @@ fn fits(
             list,
             count,
         );
-        return total <= room;
+        again = (to < room) & (total <= room);
+        to = room;
     }
-    true
+    total
 }
 
-// The first `count` of the list leave, and the connections `live` remain: the records, where there is room for them; then the tables.
+// Those listed leave, and the connections `live` remain: the records, where there is room for them; then the tables.
 fn leave(
     links: &mut u16,
     names: &mut [u16; 64],
@@ -83,44 +101,25 @@ fn leave(
     live: u16,
     reason: u8,
     list: &[u16; 64],
-    count: usize,
+    who: Leavers,
     out: &mut [u8],
 ) -> Answer
-    requires { ⌜ count ≤ 64 ⌝ }
-    ensures { λ r. ⌜ ((l : Limits) → answered r (domain-of l (now (links .exit)) (now (names .exit)) (now (homes .exit)) (now (ids .exit)) (now (roles .exit))
+    requires { ⌜ who .count ≤ 64 ⌝ }
+    ensures { λ r. ⌜ ((l : Limits) (p : ℕ) (us : List ℕ)
+        → Leaves (users-of (now (names .entry)) (now (homes .entry))) (those-on (users-of (now (names .entry)) (now (homes .entry))) p us) (now (list .entry)) who
+        → answered r (domain-of l (now (links .exit)) (now (names .exit)) (now (homes .exit)) (now (ids .exit)) (now (roles .exit))
         (now (chairs .exit)) (now (guests .exit)) (now (marks .exit)) (now (keys .exit)) (now (modes .exit)) (now (values .exit))) (now (out .exit))
         ≡ settle (domain-of l (now (links .entry)) (now (names .entry)) (now (homes .entry)) (now (ids .entry)) (now (roles .entry))
         (now (chairs .entry)) (now (guests .entry)) (now (marks .entry)) (now (keys .entry)) (now (modes .entry)) (now (values .entry)))
         (leaveOf (domain-of l (now (links .entry)) (now (names .entry)) (now (homes .entry)) (now (ids .entry)) (now (roles .entry))
         (now (chairs .entry)) (now (guests .entry)) (now (marks .entry)) (now (keys .entry)) (now (modes .entry)) (now (values .entry)))
-        live reason (take count (now (list .entry)))) (now (out .entry))) ⌝ }
+        live reason (those-on (users-of (now (names .entry)) (now (homes .entry))) p us)) (now (out .entry))) ⌝ }
 {
-    let all = &list[..];
-    let gone = tables::users::places_of(names, &all[..count]);
-    if !fits(
-        out.len(),
-        names,
-        homes,
-        ids,
-        roles,
-        chairs,
-        guests,
-        marks,
-        keys,
-        modes,
-        values,
-        gone,
-        live,
-        reason,
-        list,
-        count,
-    ) {
-        return Answer {
-            reply: Reply::NoRoom,
-            sent: 0,
-        };
-    }
-    let total = farewell::farewell(
+    // How long the column is: a place for each user.
+    let n = names[..].len();
+    let count = who.count;
+    let gone = who.seats;
+    let total = say(
         out,
         names,
         homes,
@@ -138,6 +137,13 @@ fn leave(
         list,
         count,
     );
+    if out.len() < total {
+        return Answer {
+            reply: Reply::NoRoom,
+            sent: 0,
+        };
+    }
+    let all = &list[..];
     vacating::channels::leave(
         names,
         homes,
@@ -147,6 +153,7 @@ fn leave(
         guests,
         marks,
         &all[..count],
+        gone,
         live,
     );
     vacating::users::leave(names, homes, gone);
@@ -158,8 +165,47 @@ fn leave(
     }
 }
 
-// DUrq on p: the first `count` of the ids.
-pub fn detach(
+// Who leaves: all users of p where it closes, else those listed that are its users.
+fn who_leaves(
+    names: &[u16; 64],
+    homes: &[u8; 64],
+    closes: bool,
+    p: u8,
+    list: &mut [u16; 64],
+    count: usize,
+) -> Leavers
+    ensures { λ r. ⌜ Leaves (users-of (now (names .entry)) (now (homes .entry))) (those-on (users-of (now (names .entry)) (now (homes .entry))) p
+        (if closes then inOrder (now (names .entry)) else once (take count (now (list .entry))))) (now (list .exit)) r ⌝ }
+{
+    if closes {
+        return leavers::all_on(names, homes, p, list);
+    }
+    leavers::listed_on(names, homes, p, list, count)
+}
+
+// The connections that remain.
+fn remaining(links: u16, closes: bool, p: u8) -> u16
+    ensures { λ r. ⌜ r ≡ (if closes then without allLinks links p else links) ⌝ }
+{
+    if closes {
+        return masks::without_link(links, p);
+    }
+    links
+}
+
+// The reason that is told: of a connection that closes, always the same.
+fn told(closes: bool, reason: u8) -> u8
+    ensures { λ r. ⌜ r ≡ (if closes then 0 else reason % 8) ⌝ }
+{
+    if closes {
+        return states::numbers::reason_number(Reason::DomainDisconnected);
+    }
+    reason % 8
+}
+
+// DUrq on p, of the first `count` of the ids; or, where p closes, DPum, RJum and loss. One way for both, so that little stands on the stack. The
+// list lent is worked in.
+pub fn depart(
     links: &mut u16,
     names: &mut [u16; 64],
     homes: &mut [u8; 64],
@@ -171,9 +217,10 @@ pub fn detach(
     keys: &mut [u16; 64],
     modes: &mut [u8; 64],
     values: &mut [u64; 64],
+    closes: bool,
     p: u8,
     reason: u8,
-    listed: &[u16; 64],
+    list: &mut [u16; 64],
     count: usize,
     out: &mut [u8],
 ) -> Answer
@@ -181,20 +228,19 @@ pub fn detach(
         (now (chairs .exit)) (now (guests .exit)) (now (marks .exit)) (now (keys .exit)) (now (modes .exit)) (now (values .exit))) (now (out .exit))
         ≡ settle (domain-of l (now (links .entry)) (now (names .entry)) (now (homes .entry)) (now (ids .entry)) (now (roles .entry))
         (now (chairs .entry)) (now (guests .entry)) (now (marks .entry)) (now (keys .entry)) (now (modes .entry)) (now (values .entry)))
-        (detachOf (domain-of l (now (links .entry)) (now (names .entry)) (now (homes .entry)) (now (ids .entry)) (now (roles .entry))
-        (now (chairs .entry)) (now (guests .entry)) (now (marks .entry)) (now (keys .entry)) (now (modes .entry)) (now (values .entry)))
-        p (reason % 8) (take count (now (listed .entry)))) (now (out .entry))) ⌝ }
+        (if closes then closeOf (domain-of l (now (links .entry)) (now (names .entry)) (now (homes .entry)) (now (ids .entry)) (now (roles .entry))
+        (now (chairs .entry)) (now (guests .entry)) (now (marks .entry)) (now (keys .entry)) (now (modes .entry)) (now (values .entry))) p else detachOf (domain-of l (now (links .entry)) (now (names .entry)) (now (homes .entry)) (now (ids .entry)) (now (roles .entry))
+        (now (chairs .entry)) (now (guests .entry)) (now (marks .entry)) (now (keys .entry)) (now (modes .entry)) (now (values .entry))) p (reason % 8) (take count (now (list .entry)))) (now (out .entry))) ⌝ }
 {
-    let mut list = [0u16; 64];
-    let n = leavers::listed_on(names, homes, p, listed, count, &mut list);
-    if n == 0 {
+    let who = who_leaves(names, homes, closes, p, list, count);
+    if (who.count == 0) & !closes {
         return Answer {
             reply: Reply::Ignored,
             sent: 0,
         };
     }
-    let live = *links;
-    let why = reason % 8;
+    let live = remaining(*links, closes, p);
+    let why = told(closes, reason);
     leave(
         links,
         names,
@@ -209,55 +255,8 @@ pub fn detach(
         values,
         live,
         why,
-        &list,
-        n,
-        out,
-    )
-}
-
-// DPum, RJum and loss: p closes. Who leaves is listed in a list that is lent: its caller has one anyway.
-pub fn close(
-    links: &mut u16,
-    names: &mut [u16; 64],
-    homes: &mut [u8; 64],
-    ids: &mut [u16; 128],
-    roles: &mut [u8; 128],
-    chairs: &mut [u8; 128],
-    guests: &mut [u64; 128],
-    marks: &mut [u16; 128],
-    keys: &mut [u16; 64],
-    modes: &mut [u8; 64],
-    values: &mut [u64; 64],
-    p: u8,
-    list: &mut [u16; 64],
-    out: &mut [u8],
-) -> Answer
-    ensures { λ r. ⌜ ((l : Limits) → answered r (domain-of l (now (links .exit)) (now (names .exit)) (now (homes .exit)) (now (ids .exit)) (now (roles .exit))
-        (now (chairs .exit)) (now (guests .exit)) (now (marks .exit)) (now (keys .exit)) (now (modes .exit)) (now (values .exit))) (now (out .exit))
-        ≡ settle (domain-of l (now (links .entry)) (now (names .entry)) (now (homes .entry)) (now (ids .entry)) (now (roles .entry))
-        (now (chairs .entry)) (now (guests .entry)) (now (marks .entry)) (now (keys .entry)) (now (modes .entry)) (now (values .entry)))
-        (closeOf (domain-of l (now (links .entry)) (now (names .entry)) (now (homes .entry)) (now (ids .entry)) (now (roles .entry))
-        (now (chairs .entry)) (now (guests .entry)) (now (marks .entry)) (now (keys .entry)) (now (modes .entry)) (now (values .entry))) p) (now (out .entry))) ⌝ }
-{
-    let reason = states::numbers::reason_number(Reason::DomainDisconnected);
-    let n = leavers::all_on(names, homes, p, list);
-    let live = masks::without_link(*links, p);
-    leave(
-        links,
-        names,
-        homes,
-        ids,
-        roles,
-        chairs,
-        guests,
-        marks,
-        keys,
-        modes,
-        values,
-        live,
-        reason,
         list,
-        n,
+        who,
         out,
     )
 }
