@@ -16,17 +16,17 @@ use Rattle.messages.specs.Messages.{Field, item, user, result, reason, kind, Ro
 use Rattle.messages.specs.Codec.{takeField, takeFields, takeRow, Msg, readMsg, ok, ending, decode}
 use Rattle.brief.specs.declared.Short.{Short}
 use Rattle.reader.specs.Held.{padded, isString, decoded}
-use Rattle.brief.specs.Shortly.{in-full, Shortly, IdAt, Starts, SecondId}
+use Rattle.brief.specs.Shortly.{in-full, few-ids, Shortly, IdAt, Starts, SecondId}
 
 -- the first octet k of a message of a user and another id
-module _ (k low : ℕ) (e : _≡_ {A = Row × Bool × Bool × ℕ} (row (k / 4), isString (k / 4), is-served (k / 4), k % 4) (plain (user ∷ item (anId low) ∷ []) nothing, false, true, 0)) (most : low ≤ 65536) where
+module _ (k low : ℕ) (e : _≡_ {A = Row × Bool × Bool × Bool × ℕ} (row (k / 4), isString (k / 4), is-served (k / 4), few-ids (k / 4), k % 4) (plain (user ∷ item (anId low) ∷ []) nothing, false, true, true, 0)) (most : low ≤ 65536) where
   pub second-is : (o : ℕ) → o ≡ k → SecondId o low
   second-is o is =
       rw is
       (record {
         most = most;
-        starts = λ h. record { is = ap (λ (x : Row × Bool × Bool × ℕ). x .0) e; no-string = ap (λ (x : Row × Bool × Bool × ℕ). x .1) e; served = ap (λ (x : Row × Bool × Bool × ℕ). x .2) e };
-        whole = λ h. ap (λ (x : Row × Bool × Bool × ℕ). x .3) e;
+        starts = λ h. record { is = ap (λ (x : Row × Bool × Bool × Bool × ℕ). x .0) e; no-string = ap (λ (x : Row × Bool × Bool × Bool × ℕ). x .1) e; served = ap (λ (x : Row × Bool × Bool × Bool × ℕ). x .2) e; few = ap (λ (x : Row × Bool × Bool × Bool × ℕ). x .3) e };
+        whole = λ h. ap (λ (x : Row × Bool × Bool × Bool × ℕ). x .4) e;
       })
 
 -- the fields from an octet on, and the octets behind them: none, or those from a place on
@@ -113,4 +113,4 @@ module _ (s : List ℕ) (o : ℕ) (is : o ≡ getD s 0 0) (some : 0 < length s) 
   pub shortly : Starts o fs → Takes s 1 2 b fs vs [] → (q : Short) → q ≡ record { ok = true; number = o / 4; have = length vs; first = getD vs 0 0; second = getD vs 1 0; third = getD vs 2 0 }
       → padded 4 vs ≡ getD vs 0 0 ∷ getD vs 1 0 ∷ getD vs 2 0 ∷ 0 ∷ [] → Shortly s q
   unfolding in-full decoded
-  shortly st t q f cells = record { same = rw (f, whole nothing (st .is) [] [] t refl, st .no-string, cells) refl; served = rw f (st .served) }
+  shortly st t q f cells = record { same = rw (f, whole nothing (st .is) [] [] t refl, st .no-string, cells) refl; served = rw f (st .served); few = rw f (st .few) }

@@ -7,16 +7,12 @@ ghost use lib.Dec.{eqb};
 ghost use lib.ListN.{take};
 ghost use Rattle.places.specs.Sets.{with, seats};
 ghost use Rattle.domain.specs.Cells.{kind};
-ghost use Rattle.domain.specs.Tables.{Channels, Tokens, users-of, channels-of, channel, hosts as hostsOf, at-limit, grant};
+ghost use Rattle.domain.specs.Tables.{Channels, users-of, channels-of, channel, hosts as hostsOf, at-limit, grant};
 ghost use Rattle.domain.specs.Numbers.{replyNumber};
 ghost use Rattle.domain.specs.Effects.{Effect, ignored as ignoredBy, settle, answered};
 ghost use Rattle.domain.specs.Channels.{convene as conveneOf, owned, manages, disband as disbandOf, admit as admitOf, expel as expelOf};
-ghost use Rattle.domain.specs.Events.{act};
-ghost use Rattle.domain.specs.Joined.{joined};
-ghost use Rattle.understanding.specs.Requests.{private-request};
 ghost use Rattle.private.specs.Changes.{picks, changed, changes};
 use answers::confirms;
-use domain::Limits;
 use domain::answer::Answer;
 use domain::channel::Channel;
 use domain::channel::Kind;
@@ -301,92 +297,4 @@ pub fn expel(
         count,
         out,
     )
-}
-
-// Each of these requests, by its number.
-pub fn request(
-    limits: Limits,
-    names: &[u16; 64],
-    homes: &[u8; 64],
-    ids: &mut [u16; 128],
-    roles: &mut [u8; 128],
-    chairs: &mut [u8; 128],
-    guests: &mut [u64; 128],
-    marks: &mut [u16; 128],
-    p: u8,
-    number: u32,
-    first: u16,
-    second: u16,
-    listed: &mut [u16; 64],
-    count: usize,
-    out: &mut [u8],
-) -> Answer
-    ensures { λ r. ⌜ ((m : ℕ) (ts : Tokens) → answered r (joined limits m (users-of (now (names .entry)) (now (homes .entry)))
-        (channels-of (now (ids .exit)) (now (roles .exit)) (now (chairs .exit)) (now (guests .exit)) (now (marks .exit))) ts) (now (out .exit))
-        ≡ settle (joined limits m (users-of (now (names .entry)) (now (homes .entry))) (channels-of (now (ids .entry)) (now (roles .entry)) (now (chairs .entry)) (now (guests .entry)) (now (marks .entry))) ts)
-        (act (grant (channels-of (now (ids .entry)) (now (roles .entry)) (now (chairs .entry)) (now (guests .entry)) (now (marks .entry))))
-        (joined limits m (users-of (now (names .entry)) (now (homes .entry))) (channels-of (now (ids .entry)) (now (roles .entry)) (now (chairs .entry)) (now (guests .entry)) (now (marks .entry))) ts)
-        p (private-request number first second (take count (now (listed .entry))))) (now (out .entry))) ⌝ }
-{
-    match number {
-        17 => {
-            let most = limits.channels;
-            convene(
-                names,
-                homes,
-                ids,
-                roles,
-                chairs,
-                guests,
-                marks,
-                most,
-                p,
-                first,
-                out,
-            )
-        }
-        19 => disband(
-            names,
-            homes,
-            ids,
-            roles,
-            chairs,
-            guests,
-            marks,
-            p,
-            first,
-            second,
-            out,
-        ),
-        21 => admit(
-            names,
-            homes,
-            ids,
-            roles,
-            chairs,
-            guests,
-            marks,
-            p,
-            first,
-            second,
-            listed,
-            count,
-            out,
-        ),
-        _ => expel(
-            names,
-            homes,
-            ids,
-            roles,
-            chairs,
-            guests,
-            marks,
-            p,
-            first,
-            second,
-            listed,
-            count,
-            out,
-        ),
-    }
 }

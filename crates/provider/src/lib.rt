@@ -8,6 +8,7 @@ ghost use Rattle.domain.specs.Effects.{answered};
 ghost use Rattle.domain.specs.Events.{loses, hears};
 ghost use Rattle.domain.specs.Outcomes.{after};
 ghost use Rattle.understanding.specs.Understood.{understood};
+use brief::Short;
 use domain::answer::Answer;
 use domain::numbers::Reply;
 
@@ -88,15 +89,48 @@ pub fn message(
             sent: 0,
         };
     }
-    let mut listed = [0u16; 64];
-    let u = understanding::understand(octets, &mut listed);
-    let reply = u.reply;
-    if states::numbers::reply_number(reply) != 0 {
-        return refusing::refuse(p, reply, octets, out);
+    let mut q = brief::read_short(octets);
+    if !q.ok {
+        let mut listed = [0u16; 64];
+        let u = understanding::understand(octets, &mut listed);
+        let reply = u.reply;
+        if states::numbers::reply_number(reply) != 0 {
+            return refusing::refuse(p, reply, octets, out);
+        }
+        if requests::lists(u.number) {
+            return requests::listed_request(
+                limits,
+                links,
+                names,
+                homes,
+                ids,
+                roles,
+                chairs,
+                guests,
+                marks,
+                keys,
+                modes,
+                values,
+                p,
+                u.number,
+                u.first,
+                u.second,
+                &mut listed,
+                u.count,
+                out,
+            );
+        }
+        q = Short {
+            ok: true,
+            number: u.number,
+            have: 0,
+            first: u.first,
+            second: u.second,
+            third: u.third,
+        };
     }
-    requests::request(
+    requests::brief_request(
         limits,
-        links,
         names,
         homes,
         ids,
@@ -108,12 +142,10 @@ pub fn message(
         modes,
         values,
         p,
-        u.number,
-        u.first,
-        u.second,
-        u.third,
-        &mut listed,
-        u.count,
+        q.number,
+        q.first,
+        q.second,
+        q.third,
         out,
     )
 }

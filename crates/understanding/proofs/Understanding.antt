@@ -24,17 +24,18 @@ use Rattle.reader.specs.Held.{padded, noMessage, decoded, headOf, hasIds, kept,
 use Rattle.reader.specs.declared.Decoded.{Decoded}
 use Rattle.reader.specs.declared.Head.{Head}
 use Rattle.brief.specs.declared.Short.{Short}
-use Rattle.brief.specs.Shortly.{in-full, Shortly}
+use Rattle.brief.specs.Shortly.{in-full, few-ids, Shortly}
 use Rattle.brief.specs.declared.lists.Listing.{Listing}
 use Rattle.brief.specs.Listed.{in-list, Listed}
 use Rattle.reader.proofs.HeldLaws.{unlike}
 use Rattle.domain.specs.Numbers.{replyNumber}
+use Rattle.domain.specs.declared.numbers.Reply.the-variants.{Done}
 use Rattle.domain.specs.Tables.{Domain}
 use Rattle.domain.specs.Effects.{Effect}
 use Rattle.domain.specs.Events.{Reading, reads, refuses, act, answers, ends, sends, complaint}
 use Rattle.understanding.specs.declared.Understood.{Understood}
 use Rattle.understanding.specs.Understood.{number-in, read-as, understood}
-use Rattle.understanding.specs.Requests.{pass-request, token-request, private-request, user-request, request}
+use Rattle.understanding.specs.Requests.{pass-request, token-request, brief-request, listed-request, lists, request}
 use Rattle.understanding.specs.Readings.{reply-for, requested, asks, Understands, Requests, Asked}
 
 -- ---- the tests, in their order
@@ -126,7 +127,7 @@ ItsIds m ids = hasIds (tailAt (m .number)) ≡ true → ids ≡ m .items
 
 request-act : (new : ℕ) (d : Domain) (p : ℕ) (ids : List ℕ) (m : Message) → ItsIds (fields m) ids → formed m ≡ true → is-served (fields m .number) ≡ true
     → act new d p (request-of m ids) ≡ act new d p m
-unfolding request-of ItsIds value-of request token-request pass-request private-request user-request fields is-served entry tailAt packedAt packed act
+unfolding request-of ItsIds value-of request lists listed-request brief-request token-request pass-request fields is-served entry tailAt packedAt packed act
 request-act new d p ids (EDrq h i) l f s = refl
 request-act new d p ids (DPum n) l f s = refl
 request-act new d p ids (RJum n os) l f s = refl
@@ -279,29 +280,74 @@ module _ (os : List ℕ) (dec : Decoded) (e : dec ≡ decoded os (decode os)) (k
           asked-asks os dec u r listed l e (served-understood os x f n) y k n
       go (refuse n) f = absurd (unlike (sym (ap (λ (z : Decoded). z .ok) (e ∙ ap (decoded os) f)) ∙ k))
 
-module _ (os : List ℕ) (y : Bytes os) (u : Understood) (listed : List ℕ) where
-  pub short-asks : (q : Short) → Shortly os q → q .first < 65536 → q .second < 65536 → q .third < 65536 → Requests (q .number) (q .first) (q .second) (q .third) 0 u
-      → Understands os u listed
-  unfolding in-full headOf Lists
-  short-asks q h a b c r =
-      served-read os (in-full q) (h .same) refl (h .served) y u
-      (rw (← small (q .first) (omega arith), ← small (q .second) (omega arith), ← small (q .third) (omega arith)) at r) listed (λ k. refl)
+-- a message with a list
+pub list-asks : (os : List ℕ) → Bytes os → (u : Understood) (listed : List ℕ) (l : Listing) → Listed os l listed → l .first < 65536 → l .second < 65536
+    → Requests (l .number) (l .first) (l .second) 0 (l .count) u → Understands os u listed
+unfolding in-list headOf Lists
+list-asks os y u listed l h a b r =
+    served-read os (in-list l listed) (h .same) refl (h .served) y u
+    (rw (← small (l .first) (omega arith), ← small (l .second) (omega arith)) at r) listed
+    (λ k. sym (ap (λ n. take n (padded 64 (take (l .count) listed))) (sym (h .stored)) ∙ first-listed (take (l .count) listed)))
 
-  pub list-asks : (l : Listing) → Listed os l listed → l .first < 65536 → l .second < 65536 → Requests (l .number) (l .first) (l .second) 0 (l .count) u
-      → Understands os u listed
-  unfolding in-list headOf Lists
-  list-asks l h a b r =
-      served-read os (in-list l listed) (h .same) refl (h .served) y u
-      (rw (← small (l .first) (omega arith), ← small (l .second) (omega arith)) at r) listed
-      (λ k. sym (ap (λ n. take n (padded 64 (take (l .count) listed))) (sym (h .stored)) ∙ first-listed (take (l .count) listed)))
-
--- ---- what is asked, by the reply
+-- ---- what is asked, by the reply, and by whether the request has a list
 module _ (new : ℕ) (d : Domain) (p room : ℕ) (os : List ℕ) (u : Understood) (listed : List ℕ) where
   pub refused-asks : (replyNumber (u .reply) ≡ 0 → ⊥)
       → asks new d p room os u listed ≡ sends d room (replyNumber (u .reply)) d (complaint (replyNumber (u .reply)) p os)
   unfolding asks
   refused-asks h = rw (ne-eqb (replyNumber (u .reply)) 0 h) refl
 
-  pub requested-asks : replyNumber (u .reply) ≡ 0 → asks new d p room os u listed ≡ ends d room (act new d p (requested u listed))
-  unfolding asks
-  requested-asks h = rw h refl
+  pub listed-asks : replyNumber (u .reply) ≡ 0 → lists (u .number) ≡ true
+      → asks new d p room os u listed ≡ ends d room (act new d p (listed-request (u .number) (u .first) (u .second) (take (u .count) listed)))
+  unfolding asks requested request
+  listed-asks h l = rw (h, l) refl
+
+-- the octets ask for what a request of a few ids does
+abbrev pub Briefly : (os : List ℕ) (number a b c : ℕ) → Type 0
+Briefly os number a b c = (new : ℕ) (d : Domain) (p room : ℕ) → answers new d p (understood os) room ≡ ends d room (act new d p (brief-request number a b c))
+
+pub brief-asks : (os : List ℕ) (u : Understood) (listed : List ℕ) → Understands os u listed → replyNumber (u .reply) ≡ 0 → lists (u .number) ≡ false
+    → Briefly os (u .number) (u .first) (u .second) (u .third)
+unfolding asks requested request
+brief-asks os u listed e h l new d p room = e new d p room ∙ rw (h, l) refl
+
+-- ---- a message of a few ids, which has no list
+few-unlisted : (n : ℕ) → few-ids n ≡ true → lists n ≡ false
+unfolding few-ids lists
+few-unlisted n h = go (ltb 28 n) (eqb n 10) (eqb n 14) (eqb n 17) (eqb n 19) refl refl refl refl refl h
+  where
+    at : (k : ℕ) → lists k ≡ false → eqb n k ≡ true → lists n ≡ false
+    at k z e = subst (λ (m : ℕ). lists m ≡ false) (sym (eqb-true n k e)) z
+
+    above : 28 < n → lists n ≡ false
+    above l =
+        rw (le-ltb n 10 (omega arith), ne-eqb n 12 (λ e. omega arith), ne-eqb n 16 (λ e. omega arith), ne-eqb n 21 (λ e. omega arith), ne-eqb n 23 (λ e. omega arith)) refl
+
+    go : (t a b c d : Bool) → ltb 28 n ≡ t → eqb n 10 ≡ a → eqb n 14 ≡ b → eqb n 17 ≡ c → eqb n 19 ≡ d → t || a || b || c || d ≡ true → lists n ≡ false
+    go true a b c d e f g i j h = above (ltb-true 28 n e)
+    go false true b c d e f g i j h = at 10 refl f
+    go false false true c d e f g i j h = at 14 refl g
+    go false false false true d e f g i j h = at 17 refl i
+    go false false false false true e f g i j h = at 19 refl j
+    go false false false false false e f g i j h = absurd (unlike h)
+
+-- read the short way, it asks for what it is understood to
+module _ (os : List ℕ) (y : Bytes os) (q : Short) (h : Shortly os q) (a : q .first < 65536) (b : q .second < 65536) (c : q .third < 65536) where
+  as-understood : Understood
+  as-understood = record { reply = Done; number = q .number; first = q .first; second = q .second; third = q .third; count = 0 }
+
+  short-understood : Understands os as-understood []
+  unfolding as-understood in-full headOf Lists
+  short-understood =
+      served-read os (in-full q) (h .same) refl (h .served) y as-understood
+      (record {
+        done = refl;
+        number-is = refl;
+        first-is = sym (small (q .first) (omega arith));
+        second-is = sym (small (q .second) (omega arith));
+        third-is = sym (small (q .third) (omega arith));
+        count-is = refl;
+      }) [] (λ k. refl)
+
+  pub short-asks : Briefly os (q .number) (q .first) (q .second) (q .third)
+  unfolding as-understood
+  short-asks = brief-asks os as-understood [] short-understood refl (few-unlisted (q .number) (h .few))

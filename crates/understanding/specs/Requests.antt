@@ -1,6 +1,7 @@
 -- The message that a served number names, with its first three values and its list, as the code holds them: what it asks for is what the message
 -- read asks for.
 use Prim.Native.Nat.{ℕ, _%_}
+use mathlib.Core.Bool.{Bool, _||_}
 use mathlib.Core.List.{List}
 use lib.Dec.{eqb, ltb}
 use Rattle.places.specs.Sets.{if_then_else_}
@@ -20,25 +21,27 @@ token-request number a b c =
     else if eqb number 37 then TPrq a b
     else pass-request number a b c
 
-unfoldable pub private-request : (number a b : ℕ) (ids : List ℕ) → Message
-private-request number a b ids =
-    if eqb number 17 then CCrq a
-    else if eqb number 19 then CDrq a b
-    else if eqb number 21 then CArq a b ids
-    else CErq a b ids
-
--- EDrq's values ask for nothing; RJum asks for what DPum does
-unfoldable pub user-request : (number a b : ℕ) (ids : List ℕ) → Message
-user-request number a b ids =
-    if eqb number 1 then EDrq 0 0
+-- the requests that are read the short way: a few ids
+unfoldable pub brief-request : (number a b c : ℕ) → Message
+brief-request number a b c =
+    if ltb 28 number then token-request number a b c
     else if eqb number 10 then AUrq
-    else if eqb number 12 then DUrq (a % 8) ids
     else if eqb number 14 then CJrq a b
+    else if eqb number 17 then CCrq a
+    else CDrq a b
+
+-- those with a list of ids, and those that ask for nothing of their values: EDrq's values ask for nothing, and RJum asks for what DPum does
+unfoldable pub listed-request : (number a b : ℕ) (ids : List ℕ) → Message
+listed-request number a b ids =
+    if eqb number 1 then EDrq 0 0
+    else if eqb number 12 then DUrq (a % 8) ids
     else if eqb number 16 then CLrq ids
+    else if eqb number 21 then CArq a b ids
+    else if eqb number 23 then CErq a b ids
     else DPum a
 
+unfoldable pub lists : ℕ → Bool
+lists number = ltb number 10 || eqb number 12 || eqb number 16 || eqb number 21 || eqb number 23
+
 unfoldable pub request : (number a b c : ℕ) (ids : List ℕ) → Message
-request number a b c ids =
-    if ltb 28 number then token-request number a b c
-    else if ltb 16 number then private-request number a b ids
-    else user-request number a b ids
+request number a b c ids = if lists number then listed-request number a b ids else brief-request number a b c

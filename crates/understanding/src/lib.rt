@@ -15,18 +15,11 @@ pub struct Understood {
     pub count: usize,
 }
 
-// The short ways first, two ids before all, and those with a list of ids, which is stored; else the long way, which stores it too.
+// Messages with a list of ids first, which is stored; else the long way, which stores it too. Those of a few ids alone are read before
+// (`brief` `read_short`), where no list is at hand.
 pub fn understand(octets: &[u8], listed: &mut [u16; 64]) -> Understood
     ensures { λ r. ⌜ Understands (now (octets .entry)) r (now (listed .exit)) ⌝ }
 {
-    let t = brief::two_ids(octets);
-    if t.ok {
-        return done(t.number, t.first, t.second, t.third, 0);
-    }
-    let q = brief::read_short(octets);
-    if q.ok {
-        return done(q.number, q.first, q.second, q.third, 0);
-    }
     let l = brief::lists::read_listing(octets, listed);
     if l.ok {
         return done(l.number, l.first, l.second, 0, l.count);

@@ -3,6 +3,7 @@ use native.Mathlib.Omega.{arith}
 use Rattle.messages.specs.Messages.{row, entry, is-served}
 use Rattle.messages.specs.Columns.{tailAt, packedAt, packed}
 use Rattle.reader.proofs.HeldLaws.{unlike}
+use Rattle.brief.specs.Shortly.{few-ids}
 use Rattle.brief.proofs.ShortLaws.{none-left, id-before, shortly}
 use borrow.Author.Needs.{needs}
 use Rattle.brief.proofs.one_id.Statement.{statement}
@@ -24,11 +25,11 @@ of-values-requires : tie.Need-of-values-requires
 of-values-requires c κs = search needs
 
 returns-2 : tie.Need-returns-2
-unfolding row entry is-served tailAt packedAt packed
+unfolding row entry is-served few-ids tailAt packedAt packed
 returns-2 c k =
     let s = c .before .before .before .before .before .args .s .now in
     let m = c .of-values .ensures k in
-    shortly s 0x44 (sym (c .before .before .if1 .left)) (search needs) (search needs) (search needs) 0 refl _ _ (record { is = refl; no-string = refl; served = refl }) (id-before (c .before .id-at .ensures) (m .first) (none-left (search needs))) _ (m .is) refl
+    shortly s 0x44 (sym (c .before .before .if1 .left)) (search needs) (search needs) (search needs) 0 refl _ _ (record { is = refl; no-string = refl; served = refl; few = refl }) (id-before (c .before .id-at .ensures) (m .first) (none-left (search needs))) _ (m .is) refl
 
 pub one-id-spec : {M : Type 1} → statement M
 one-id-spec =

@@ -2,6 +2,7 @@ use mathlib.Core.Path.{refl, sym, _∙_}
 use Rattle.messages.specs.Messages.{row, entry, is-served}
 use Rattle.messages.specs.Columns.{tailAt, packedAt, packed}
 use Rattle.reader.proofs.HeldLaws.{unlike}
+use Rattle.brief.specs.Shortly.{few-ids}
 use Rattle.brief.proofs.ShortLaws.{none-left, id-before, result-before, shortly}
 use borrow.Author.Needs.{needs}
 use Rattle.brief.proofs.result_and_ids.Statement.{statement}
@@ -47,14 +48,14 @@ of-values-requires : tie.Need-of-values-requires
 of-values-requires c κs = search needs
 
 returns-3 : tie.Need-returns-3
-unfolding row entry is-served tailAt packedAt packed
+unfolding row entry is-served few-ids tailAt packedAt packed
 returns-3 c k =
     let s = c .before .before .before .before .before .before .before .before .before .before .args .s .now in
     let o = c .before .before .before .before .before .before .before .wide in
     let p = c .before .before .before .before .before .wide2 in
     let e = c .before .before .before .before .if1 .left in
     let m = c .of-values .ensures k in
-    shortly s (o .result) (o .ensures .0) (search needs) (search needs) (o .ensures .1) _ refl _ _ (record { is = rw e refl; no-string = rw e refl; served = rw e refl })
+    shortly s (o .result) (o .ensures .0) (search needs) (search needs) (o .ensures .1) _ refl _ _ (record { is = rw e refl; no-string = rw e refl; served = rw e refl; few = rw e refl })
     (result-before (o .result) (p .result) (search needs) (p .ensures .0) (p .ensures .1) (c .before .before .before .if2 .left)
     (id-before (c .before .before .id-at .ensures) (m .second) (id-before (c .before .id-at2 .ensures) (m .third) (none-left (search needs))))) _
     (rw e (m .is)) refl

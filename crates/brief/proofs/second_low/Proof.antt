@@ -3,20 +3,21 @@ use mathlib.Core.Logic.{⊎-elim}
 use native.Mathlib.Omega.{arith}
 use Rattle.messages.specs.Messages.{row, entry, is-served}
 use Rattle.messages.specs.Columns.{tailAt, packedAt, packed}
+use Rattle.brief.specs.Shortly.{few-ids}
 use Rattle.brief.proofs.ShortLaws.{second-is}
 use Rattle.brief.proofs.second_low.Statement.{statement}
 use Rattle.brief.proofs.second_low.Tie as tie
 
 returns : tie.Need-returns
-unfolding row entry is-served tailAt packedAt packed
+unfolding row entry is-served few-ids tailAt packedAt packed
 returns c = second-is 0x38 0 refl (omega arith) _ (c .match .keys1)
 
 returns-2 : tie.Need-returns-2
-unfolding row entry is-served tailAt packedAt packed
+unfolding row entry is-served few-ids tailAt packedAt packed
 returns-2 c = second-is 0x4C 1001 refl (omega arith) _ (c .match .keys2)
 
 returns-3 : tie.Need-returns-3
-unfolding row entry is-served tailAt packedAt packed
+unfolding row entry is-served few-ids tailAt packedAt packed
 returns-3 c =
     ⊎-elim (second-is 0x74 1 refl (omega arith) _)
     (⊎-elim (second-is 0x7C 1 refl (omega arith) _)
