@@ -41,7 +41,7 @@ pub fn lose(
         };
     }
     let mut list = [0u16; 64];
-    leaving::close(
+    leaving::depart(
         links,
         names,
         homes,
@@ -53,8 +53,11 @@ pub fn lose(
         keys,
         modes,
         values,
+        true,
         p,
+        0,
         &mut list,
+        0,
         out,
     )
 }

@@ -135,7 +135,7 @@ pub fn brief_request(
     }
 }
 
-// The requests with a list of ids, and EDrq, DPum and RJum. DPum and RJum close; the list lent is then worked in.
+// The requests with a list of ids, and EDrq, DPum and RJum. All but DUrq that leave close; the list lent is worked in.
 pub fn listed_request(
     limits: Limits,
     links: &mut u16,
@@ -171,27 +171,6 @@ pub fn listed_request(
             reply: Reply::Done,
             sent: 0,
         },
-        12 => {
-            let reason = (first % 8) as u8;
-            leaving::detach(
-                links,
-                names,
-                homes,
-                ids,
-                roles,
-                chairs,
-                guests,
-                marks,
-                keys,
-                modes,
-                values,
-                p,
-                reason,
-                listed,
-                count,
-                out,
-            )
-        }
         16 => channels::leave_channels(ids, roles, chairs, guests, marks, p, listed, count, out),
         21 => private::admit(
             names,
@@ -223,21 +202,28 @@ pub fn listed_request(
             count,
             out,
         ),
-        _ => leaving::close(
-            links,
-            names,
-            homes,
-            ids,
-            roles,
-            chairs,
-            guests,
-            marks,
-            keys,
-            modes,
-            values,
-            p,
-            listed,
-            out,
-        ),
+        _ => {
+            let closes = number != 12;
+            let reason = (first % 8) as u8;
+            leaving::depart(
+                links,
+                names,
+                homes,
+                ids,
+                roles,
+                chairs,
+                guests,
+                marks,
+                keys,
+                modes,
+                values,
+                closes,
+                p,
+                reason,
+                listed,
+                count,
+                out,
+            )
+        }
     }
 }

@@ -10,14 +10,14 @@ is-open-requires c κs = search needs
 returns : tie.Need-returns
 returns c = λ l. shut-loses _ (c .before .before .before .before .args .p) _ _ (c .before .is-open .ensures) (not-true _ (c .if1 .taken))
 
-close-requires : tie.Need-close-requires
-close-requires c κs = search needs
+depart-requires : tie.Need-depart-requires
+depart-requires c κs = search needs
 
 same-length : tie.Need-same-length
 same-length c = search needs
 
 returns-2 : tie.Need-returns-2
-returns-2 c = λ l. c .before .before .close .ensures l ∙ open-loses _ (c .before .before .before .before .before .before .before .before .before .before .before .before .before .before .before .before .before .before .before .before .args .p) _ _ (c .before .before .before .before .before .before .before .before .before .before .before .before .before .before .before .before .before .is-open .ensures) (not-false _ (c .before .before .before .before .before .before .before .before .before .before .before .before .before .before .before .before .if1 .left))
+returns-2 c = λ l. c .before .before .depart .ensures l ∙ open-loses _ (c .before .before .before .before .before .before .before .before .before .before .before .before .before .before .before .before .before .before .before .before .args .p) _ _ (c .before .before .before .before .before .before .before .before .before .before .before .before .before .before .before .before .before .is-open .ensures) (not-false _ (c .before .before .before .before .before .before .before .before .before .before .before .before .before .before .before .before .if1 .left))
 
 pub lose-spec : {M : Type 1} → statement M
-lose-spec = tie.close (tie.spec is-open-requires returns close-requires same-length returns-2)
+lose-spec = tie.close (tie.spec is-open-requires returns depart-requires same-length returns-2)
