@@ -34,8 +34,8 @@ empty (x ∷ xs) e = absurd (omega arith)
 abbrev pub runs : (again : Bool) (to room : ℕ) → ℕ
 runs again to room = (if again then 1 else 0) + (room - to)
 
-pub fewer : (again : Bool) (to room n : ℕ) → again ≡ true → to ≤ room → runs (ltb to room && leb n room) room room < runs again to room
-fewer again to room n e h = rw e (go (ltb to room) refl (leb n room))
+pub fewer : (again fits : Bool) (to room : ℕ) → again ≡ true → to ≤ room → runs (ltb to room && fits) room room < runs again to room
+fewer again fits to room e h = rw e (go (ltb to room) refl fits)
   where
     go : (b : Bool) → ltb to room ≡ b → (c : Bool) → runs (b && c) room room < runs true to room
     go true q true = omega (arith, ltb-true to room q)

@@ -47,7 +47,7 @@ farewell-requires : tie.Need-farewell-requires Inv-loop μ-loop
 farewell-requires c κs = search needs
 
 loop-less : tie.Need-loop-less Inv-loop μ-loop
-loop-less c = let w = c .before .before .before .before .before .loop in fewer (w .again) (w .to) _ _ (c .before .before .before .before .loop-test .taken) (search needs)
+loop-less c = let w = c .before .before .before .before .before .loop in fewer (w .again) _ (w .to) _ (c .before .before .before .before .loop-test .taken) (search needs)
 
 loop-again : tie.Need-loop-again Inv-loop μ-loop
 loop-again c =
