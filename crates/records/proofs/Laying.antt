@@ -9,7 +9,7 @@ use native.Mathlib.Omega.{arith}
 use borrow.Author.Tests.{le-leb, leb-true}
 use lib.Dec.{leb}
 use lib.ListN.{length, take, drop, getD, set, length-append, length-drop, drop-of-length-le}
-use lib.Seq.{take-at, sets, sets-eq, length-sets, take-all, take-length, take-nil, drop-length, drop-nil, drop-cons}
+use lib.Seq.{take-at, sets, sets-eq, length-sets, take-all, drop-cons}
 use Rattle.places.proofs.Bools.{and-parts}
 use Rattle.messages.specs.Limits.{message-limit}
 use Rattle.records.specs.Records.{two, framed}
@@ -90,13 +90,6 @@ put-rest s at from os t n e p =
       laid = rw (drop-of-length-le (drop from s) all, append-nil t, p .laid, take-all (length s - from) (drop from s) all, e) (rest-laid s at os);
       next = rw (p .next, zero-add (length os)) refl;
     }
-
--- a put into the part of no octets behind the end tells the size and changes nothing
-pub untouched : (s os t : List ℕ) (n : ℕ) → Puts (take (length s - length s) (drop (length s) s)) 0 os t n
-    → take (length s) s ++ (t ++ drop (length s - length s) (drop (length s) s)) ≡ s
-untouched s os t n p =
-    let z : t ≡ [] = p .laid ∙ rw (drop-length s, take-nil (length s - length s)) (sets-nil 0 os) in
-    rw (z, drop-length s, drop-nil (length s - length s), take-length s) (append-nil s)
 
 -- ---- a run of puts: laying `rest` from here is laying `all` from the start
 pub record Onward (s₀ : List ℕ) (at₀ : ℕ) (all s : List ℕ) (at : ℕ) (rest : List ℕ) : Type 0 where

@@ -2,13 +2,10 @@
 use mathlib.Core.Path.{_≡_, refl, sym, ap, _∙_}
 use mathlib.Core.Bool.{Bool, true, false, _||_, or-false}
 use mathlib.Core.List.{List, [], _∷_, _++_}
-use Prim.Native.Nat.{ℕ, _+_, _<_, zero-le}
-use native.Mathlib.Numerals.{add-one}
+use Prim.Native.Nat.{ℕ, _<_, zero-le}
 use native.Mathlib.Omega.{arith}
 use borrow.Author.Tests.{ne-eqb}
 use lib.Dec.{eqb}
-use lib.ListN.{length, getD, take}
-use lib.Seq.{take-suc}
 use Rattle.places.specs.Sets.{any, has, with, seats}
 use Rattle.places.specs.Places.{Place, At, Nowhere, find, number}
 use Rattle.places.proofs.Digits.{has-high, has-with, has-those, is-those, those-lt}
@@ -42,9 +39,3 @@ module _ (us : Users) (xs : List ℕ) (x m r : ℕ) (is : m ≡ places us xs) (a
       ∙ ap (λ (b : Bool). b || eqb r k) (ap (λ (n : ℕ). has n k) is ∙ has-those seats (λ i. any (λ u. stands i (find (us .ids) u)) xs) k h)
       ∙ ap (λ (b : Bool). any (λ u. stands k (find (us .ids) u)) xs || b) (ap (λ (n : ℕ). eqb n k) at ∙ stands-number (find (us .ids) x) k h)
       ∙ sym (any-end (λ u. stands k (find (us .ids) u)) xs x))
-
--- a turn of a loop over a list
-pub places-turn : (us : Users) → length (us .ids) ≡ 64 → (ids : List ℕ) (i m r : ℕ) → i < length ids → m ≡ places us (take i ids)
-    → r ≡ number (length (us .ids)) (find (us .ids) (getD ids i 0)) → with seats m r ≡ places us (take (i + 1) ids)
-places-turn us sized ids i m r h is at =
-    places-more us (take i ids) (getD ids i 0) m r is (at ∙ ap (λ (n : ℕ). number n (find (us .ids) (getD ids i 0))) sized) ∙ ap (places us) (sym (rw (add-one i) (take-suc ids i 0 h)))

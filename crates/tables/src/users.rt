@@ -1,10 +1,8 @@
 // Users: the id and the connection of each place.
 ghost use mathlib.Core.Path.{_≡_};
-ghost use mathlib.Core.List.{List};
-ghost use Prim.Native.Nat.{ℕ, _≤_};
+ghost use Prim.Native.Nat.{_≤_};
 ghost use lib.ListN.{getD};
 ghost use Rattle.places.specs.Places.{number};
-ghost use Rattle.domain.specs.Channels.{places as placesOf};
 ghost use Rattle.domain.specs.Tables.{users-of, attached as attachedIn, add-user, hosts as hostsOf};
 
 // The place of user u, where u is attached on p; 64 is nowhere.
@@ -42,20 +40,6 @@ pub fn hosts(names: &[u16; 64], homes: &[u8; 64], who: u64) -> u16
     while i < 64 {
         m = masks::with_link(m, at[i]);
         i = masks::next_in(who, i + 1);
-    }
-    m
-}
-
-// The places of the users among ids. An id that is found nowhere is at 64, which marks nothing.
-pub fn places_of(names: &[u16; 64], ids: &[u16]) -> u64
-    ensures { λ r. ⌜ ((homes : List ℕ) → r ≡ placesOf (users-of (now (names .entry)) homes) (now (ids .entry))) ⌝ }
-{
-    let mut m: u64 = 0;
-    let mut i = 0;
-    while i < ids.len() {
-        let at = seeking::find(names, ids[i]);
-        m = masks::with_seat(m, at as u8);
-        i += 1;
     }
     m
 }
