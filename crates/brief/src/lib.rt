@@ -101,7 +101,7 @@ fn one_id(s: &[u8]) -> Short
     of_values(17, 1, id_at(s, 1, 1001), 0, 0)
 }
 
-// A user and a channel, a private channel or a token: most messages of all, so that a caller may ask for these first, in line.
+// A user and a channel, a private channel or a token: most messages of all.
 pub fn two_ids(s: &[u8]) -> Short
     ensures { λ r. ⌜ (r .ok ≡ true → Shortly (now (s .entry)) r) ⌝ }
 {

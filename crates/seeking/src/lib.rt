@@ -66,7 +66,7 @@ fn passed(ids: &[u16], x: u16) -> usize
     skipped(ids, x)
 }
 
-// The first place that holds x. The ids in use stand low, so going up ends soon.
+// The first place that holds x: that place, or, behind the last 64, one sought place by place.
 fn first(ids: &[u16], x: u16) -> usize
     ensures { λ r. ⌜ r ≡ number (length (now (ids .entry))) (firstIn 0 x (now (ids .entry))) ⌝ }
 {
