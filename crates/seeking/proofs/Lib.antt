@@ -1,2 +1,3 @@
--- The law of the loop over the places that are looked at together.
+-- The laws of the two loops over the places that are looked at together.
 pub mod Looked
+pub mod Summed

@@ -15,7 +15,7 @@ use Rattle.places.proofs.Places.{first-miss}
 abbrev pub Past : (ids : List ℕ) (from x i : ℕ) → Type 0
 Past ids from x i = first from x (drop from ids) ≡ first i x (drop i ids)
 
-past : (ids : List ℕ) (from x i j : ℕ) → i ≡ j → Past ids from x i → Past ids from x j
+pub past : (ids : List ℕ) (from x i j : ℕ) → i ≡ j → Past ids from x i → Past ids from x j
 past ids from x i j e p = rw e at p
 
 pub record Looked (ids : List ℕ) (from x n k most : ℕ) : Type 0 where
@@ -33,14 +33,10 @@ module _ {ids : List ℕ} {from x n : ℕ} where
 
   -- one place more: where it holds x, `left` are left there, else `left` is 0; r is the greater of `left` and `most`
   pub looked-at-next : {k most left r : ℕ} → Looked ids from x n k most → k < n → from + n ≤ length ids
-      → left ≡ (if eqb (getD ids (from + k) 0) x then n - k else 0) → (left < most → r ≡ most) × (most ≤ left → r ≡ left)
+      → (left ≡ (if eqb (getD ids (from + k) 0) x then n - k else 0)) × (left ≤ n - k) → (left < most → r ≡ most) × (most ≤ left → r ≡ left)
       → Looked ids from x n (k + 1) r
-  looked-at-next {k} {most} {left} {r} s h room e greater = go (eqb (getD ids (from + k) 0) x) refl (eqb most 0) refl e
+  looked-at-next {k} {most} {left} {r} s h room (e, few) greater = go (eqb (getD ids (from + k) 0) x) refl (eqb most 0) refl e
     where
-      few : (b : Bool) → left ≡ (if b then n - k else 0) → left ≤ n - k
-      few true e = omega arith
-      few false e = omega arith
-
       go : (b : Bool) → eqb (getD ids (from + k) 0) x ≡ b → (z : Bool) → eqb most 0 ≡ z → left ≡ (if b then n - k else 0) → Looked ids from x n (k + 1) r
       go true q true z e =
           let o = eqb-true most 0 z in
@@ -61,7 +57,7 @@ module _ {ids : List ℕ} {from x n : ℕ} where
           }
       go b q false z e =
           let p = s .some (omega (arith, eqb-false most 0 z)) in
-          let a = greater .0 (omega (arith, few b e)) in
+          let a = greater .0 (omega arith) in
           record {
             within = (omega arith, omega arith);
             none = λ l. absurd (omega arith);

@@ -5,9 +5,9 @@ ghost use lib.ListN.{length, drop};
 ghost use Rattle.places.specs.Sets.{if_then_else_};
 ghost use Rattle.places.specs.Places.{first as firstIn, find as findIn, spare as spareIn, number};
 
-// So many places are left, where an id stands here; else none. A choice, and no branch.
-fn left(here: bool, n: u16) -> u16
-    ensures { λ r. ⌜ r ≡ (if here then n else 0) ⌝ }
+// A number, where an id stands here; else 0. A choice, and no branch.
+fn if_here(here: bool, n: u16) -> u16
+    ensures { λ r. ⌜ (r ≡ (if here then n else 0)) × (r ≤ n) ⌝ }
 {
     if here { n } else { 0 }
 }
@@ -27,19 +27,50 @@ fn among(ids: &[u16], from: usize, x: u16) -> usize
     let mut most: u16 = 0;
     let mut k: usize = 0;
     while k < 64 {
-        most = greater(left(ids[from + k] == x, (64 - k) as u16), most);
+        most = greater(if_here(ids[from + k] == x, (64 - k) as u16), most);
         k += 1;
     }
     64 - most as usize
 }
 
+// The same by a sum, which takes fewer steps: 256 and the place, where x stands. Where it stands at two places or more nothing is passed over.
+fn alone(ids: &[u16], from: usize, x: u16) -> usize
+    requires { ⌜ from + 64 ≤ length (now ids) ⌝ }
+    ensures { λ r. ⌜ (r ≤ 64) × (firstIn from x (drop from (now (ids .entry))) ≡ firstIn (from + r) x (drop (from + r) (now (ids .entry)))) ⌝ }
+{
+    let mut sum: u16 = 0;
+    let mut k: usize = 0;
+    while k < 64 {
+        sum += if_here(ids[from + k] == x, (256 + k) as u16);
+        k += 1;
+    }
+    if sum < 256 {
+        return 64;
+    }
+    if sum < 512 {
+        return (sum - 256) as usize;
+    }
+    0
+}
+
+// By the one or the other. `many` only chooses a way: an id in use stands at one place, and many places are free.
+fn near(ids: &[u16], from: usize, x: u16, many: bool) -> usize
+    requires { ⌜ from + 64 ≤ length (now ids) ⌝ }
+    ensures { λ r. ⌜ (r ≤ 64) × (firstIn from x (drop from (now (ids .entry))) ≡ firstIn (from + r) x (drop (from + r) (now (ids .entry)))) ⌝ }
+{
+    if many {
+        return among(ids, from, x);
+    }
+    alone(ids, from, x)
+}
+
 // A place that x does not stand before, found 64 places at a time.
-fn skipped(ids: &[u16], x: u16) -> usize
+fn skipped(ids: &[u16], x: u16, many: bool) -> usize
     ensures { λ r. ⌜ (r ≤ length (now (ids .entry))) × (firstIn 0 x (now (ids .entry)) ≡ firstIn r x (drop r (now (ids .entry)))) ⌝ }
 {
     let mut i = 0;
     while 64 <= ids.len() - i {
-        let k = among(ids, i, x);
+        let k = near(ids, i, x, many);
         if k < 64 {
             return i + k;
         }
@@ -57,20 +88,20 @@ fn at_start(ids: &[u16], x: u16) -> bool {
 }
 
 // A place that x does not stand before.
-fn passed(ids: &[u16], x: u16) -> usize
+fn passed(ids: &[u16], x: u16, many: bool) -> usize
     ensures { λ r. ⌜ (r ≤ length (now (ids .entry))) × (firstIn 0 x (now (ids .entry)) ≡ firstIn r x (drop r (now (ids .entry)))) ⌝ }
 {
     if at_start(ids, x) {
         return 0;
     }
-    skipped(ids, x)
+    skipped(ids, x, many)
 }
 
 // The first place that holds x: that place, or, behind the last 64, one sought place by place.
-fn first(ids: &[u16], x: u16) -> usize
+fn first(ids: &[u16], x: u16, many: bool) -> usize
     ensures { λ r. ⌜ r ≡ number (length (now (ids .entry))) (firstIn 0 x (now (ids .entry))) ⌝ }
 {
-    let mut i = passed(ids, x);
+    let mut i = passed(ids, x, many);
     while i < ids.len() {
         if ids[i] == x {
             return i;
@@ -87,12 +118,12 @@ pub fn find(ids: &[u16], x: u16) -> usize
     if x == 0 {
         return ids.len();
     }
-    first(ids, x)
+    first(ids, x, false)
 }
 
 // The place that the next new id gets.
 pub fn spare(ids: &[u16]) -> usize
     ensures { λ r. ⌜ r ≡ number (length (now (ids .entry))) (spareIn (now (ids .entry))) ⌝ }
 {
-    first(ids, 0)
+    first(ids, 0, true)
 }

@@ -14,22 +14,22 @@ abbrev μ-loop : tie.MeasureT-loop
 loop-holds : tie.Need-loop-holds Inv-loop μ-loop
 loop-holds c = looked-at-none
 
-add-left : tie.Need-add-left Inv-loop μ-loop
-add-left c = search needs
+add-if-here : tie.Need-add-if-here Inv-loop μ-loop
+add-if-here c = search needs
 
-mul-left : tie.Need-mul-left Inv-loop μ-loop
-mul-left c = search needs
+mul-if-here : tie.Need-mul-if-here Inv-loop μ-loop
+mul-if-here c = search needs
 
-shared-slice-read-left : tie.Need-shared-slice-read-left Inv-loop μ-loop
-shared-slice-read-left c = search needs
+shared-slice-read-if-here : tie.Need-shared-slice-read-if-here Inv-loop μ-loop
+shared-slice-read-if-here c = search needs
 
-sub-left : tie.Need-sub-left Inv-loop μ-loop
-sub-left c = search needs
+sub-if-here : tie.Need-sub-if-here Inv-loop μ-loop
+sub-if-here c = search needs
 
-cast-left : tie.Need-cast-left Inv-loop μ-loop
-cast-left c = search needs
+cast-if-here : tie.Need-cast-if-here Inv-loop μ-loop
+cast-if-here c = search needs
 
-left-requires : tie.Need-left-requires Inv-loop μ-loop
+left-requires : tie.Need-if-here-requires Inv-loop μ-loop
 left-requires c κs = search needs
 
 greater-requires : tie.Need-greater-requires Inv-loop μ-loop
@@ -43,7 +43,7 @@ loop-less c = search needs
 
 loop-again : tie.Need-loop-again Inv-loop μ-loop
 loop-again c =
-    looked-at-next (c .before .before .before .before .loop .inv) (search needs) (search needs) (c .before .left .ensures) (c .greater .ensures)
+    looked-at-next (c .before .before .before .before .loop .inv) (search needs) (search needs) (c .before .if-here .ensures) (c .greater .ensures)
 
 cast-result : tie.Need-cast-result Inv-loop μ-loop
 cast-result c = search needs
@@ -61,11 +61,11 @@ among-spec =
     Inv-loop
     μ-loop
     loop-holds
-    add-left
-    mul-left
-    shared-slice-read-left
-    sub-left
-    cast-left
+    add-if-here
+    mul-if-here
+    shared-slice-read-if-here
+    sub-if-here
+    cast-if-here
     left-requires
     greater-requires
     add-k

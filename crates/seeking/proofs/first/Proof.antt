@@ -11,10 +11,10 @@ use Rattle.seeking.proofs.first.Statement.{statement}
 use Rattle.seeking.proofs.first.Tie as tie
 
 abbrev Inv-loop : tie.InvT-loop
-Inv-loop ids x i₀ i = (i ≤ length ids) × (first 0 x ids ≡ first i x (drop i ids))
+Inv-loop ids x many i₀ i = (i ≤ length ids) × (first 0 x ids ≡ first i x (drop i ids))
 
 abbrev μ-loop : tie.MeasureT-loop
-μ-loop ids x i₀ i = length ids - i
+μ-loop ids x many i₀ i = length ids - i
 
 passed-requires : tie.Need-passed-requires Inv-loop μ-loop
 passed-requires c κs = search needs

@@ -9,10 +9,10 @@ use Rattle.seeking.proofs.skipped.Statement.{statement}
 use Rattle.seeking.proofs.skipped.Tie as tie
 
 abbrev Inv-loop : tie.InvT-loop
-Inv-loop ids x i₀ i = (i ≤ length ids) × (first 0 x ids ≡ first i x (drop i ids))
+Inv-loop ids x many i₀ i = (i ≤ length ids) × (first 0 x ids ≡ first i x (drop i ids))
 
 abbrev μ-loop : tie.MeasureT-loop
-μ-loop ids x i₀ i = length ids - i
+μ-loop ids x many i₀ i = length ids - i
 
 loop-holds : tie.Need-loop-holds Inv-loop μ-loop
 loop-holds c = (search needs, refl)
@@ -20,14 +20,14 @@ loop-holds c = (search needs, refl)
 sub-loop : tie.Need-sub-loop Inv-loop μ-loop
 sub-loop c = search needs
 
-among-requires : tie.Need-among-requires Inv-loop μ-loop
-among-requires c κs = omega arith
+near-requires : tie.Need-near-requires Inv-loop μ-loop
+near-requires c κs = omega arith
 
 add-result : tie.Need-add-result Inv-loop μ-loop
 add-result c = search needs
 
 returns : tie.Need-returns Inv-loop μ-loop
-returns c = (search needs, c .before .before .before .loop .inv .1 ∙ c .before .among .ensures .1)
+returns c = (search needs, c .before .before .before .loop .inv .1 ∙ c .before .near .ensures .1)
 
 add-i : tie.Need-add-i Inv-loop μ-loop
 add-i c = search needs
@@ -37,8 +37,8 @@ loop-less c = omega arith
 
 loop-again : tie.Need-loop-again Inv-loop μ-loop
 loop-again c =
-    let e : c .before .among .result ≡ 64 = omega arith in
-    (omega arith, c .before .before .before .loop .inv .1 ∙ rw e at (c .before .among .ensures .1))
+    let e : c .before .near .result ≡ 64 = omega arith in
+    (omega arith, c .before .before .before .loop .inv .1 ∙ rw e at (c .before .near .ensures .1))
 
 returns-2 : tie.Need-returns-2 Inv-loop μ-loop
 returns-2 c = search needs
@@ -51,7 +51,7 @@ skipped-spec =
     μ-loop
     loop-holds
     sub-loop
-    among-requires
+    near-requires
     add-result
     returns
     add-i
