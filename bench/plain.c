@@ -896,18 +896,3 @@ int plain_message(struct plain *d, u32 p, const octet *s, size n, octet *out, si
         return test_token(d, p, &m, at, out, room, sent);
     }
 }
-
-/* A loop for the timing of the codec. The barrier keeps the compiler from doing one round for all. */
-static inline void barrier(void *p) { __asm__ volatile("" : : "r"(p) : "memory"); }
-
-u32 plain_write_many(octet *s, size room, u32 number, u32 rounds)
-{
-    u32 sum = 0;
-    while (rounds--) {
-        size n = 0;
-        int r = plain_write_confirm(s, room, number, 9, 1007, rounds % 65535 + 1, 2, &n);
-        sum += r ? (u32)r : (u32)n;
-        barrier(s);
-    }
-    return sum;
-}

@@ -47,5 +47,4 @@ int plain_message(struct plain *d, u32 p, const octet *s, size n, octet *out, si
 int plain_read(const octet *s, size n, struct message *m); /* 0, or the refusal */
 size plain_confirm(octet *s, u32 number, u32 result, u32 user, u32 token, u32 status);
 int plain_write_confirm(octet *s, size room, u32 number, u32 result, u32 user, u32 token, u32 status, size *n);
-u32 plain_write_many(octet *s, size room, u32 number, u32 rounds);
 #endif

@@ -1,16 +1,6 @@
 /* Times reading and writing a token message, and a grab and a release by the provider, with the stack that they touch. Least processor time of many tries. */
-#define _GNU_SOURCE
+#include "measuring.h"
 #include "ladlestorm.h"
-#include <pthread.h>
-#include <stdint.h>
-#include <stdio.h>
-#include <stdlib.h>
-#include <string.h>
-#include <sys/mman.h>
-#include <time.h>
-
-uint32_t read_once(const uint8_t *octets, size_t length, uint16_t list[64]);
-uint32_t write_many(uint8_t *room, size_t length, uint32_t number, uint32_t rounds);
 
 static const uint8_t grab[] = {0x74, 0x00, 0x06, 0x00, 0x00};
 static const uint8_t first_grab[] = {0x74, 0x00, 0x00, 0x00, 0x00};    /* TGrq by 1001 for token 1 */
@@ -23,12 +13,13 @@ static struct ladlestorm_domain domain;
 static volatile uint32_t sink;
 static uint32_t rounds = 1000;
 
-static uint16_t list[64];
-static void reads(const uint8_t *octets, size_t length) { for (uint32_t i = 0; i < rounds; i++) sink = read_once(octets, length, list); }
+static void reads(const uint8_t *octets, size_t length) { for (uint32_t i = 0; i < rounds; i++) read_message(octets, length); }
 static void read_grab(void) { reads(grab, sizeof grab); }
 static void read_confirm(void) { reads(confirm, sizeof confirm); }
 static void read_detach(void) { reads(detach, sizeof detach); }
-static void write_confirm(void) { sink = write_many(room, 16, 30, rounds); }
+
+/* TGcf token-not-available, otherGrabbed, each for another token. */
+static void write_confirms(void) { for (uint32_t i = 0; i < rounds; i++) sink = write_confirm(room, 16, 30, 9, 1007, i + 1, 2); }
 
 /* The user grabs the token and releases it. */
 static void pass(void)
@@ -49,51 +40,15 @@ static void begin(void)
     ladlestorm_message(&domain, 0, attach, sizeof attach, room, sizeof room);
 }
 
-static void nothing(void) {}
-
-static double now(void)
-{
-    struct timespec t;
-    clock_gettime(CLOCK_THREAD_CPUTIME_ID, &t);
-    return t.tv_sec * 1e9 + t.tv_nsec;
-}
-
 static double best(void (*f)(void))
 {
     double least = 1e300;
     for (int i = 0; i < 300; i++) {
-        double a = now();
-        f();
-        double t = now() - a;
+        double t = once(f);
         if (t < least)
             least = t;
     }
     return least / rounds;
-}
-
-static void *start(void *f)
-{
-    ((void (*)(void))f)();
-    return 0;
-}
-
-/* f runs on a thread whose stack is filled with a pattern; how far it was written. */
-static size_t touched(void (*f)(void))
-{
-    size_t size = 1u << 20, i = 0;
-    unsigned char *s = mmap(0, size, PROT_READ | PROT_WRITE, MAP_PRIVATE | MAP_ANONYMOUS, -1, 0);
-    memset(s, 0xA5, size);
-    pthread_attr_t a;
-    pthread_attr_init(&a);
-    pthread_attr_setstack(&a, s, size);
-    pthread_t t;
-    if (pthread_create(&t, &a, start, (void *)f))
-        abort();
-    pthread_join(t, 0);
-    while (i < size && s[i] == 0xA5)
-        i++;
-    munmap(s, size);
-    return size - i;
 }
 
 static void report(const char *name, void (*f)(void))
@@ -101,7 +56,7 @@ static void report(const char *name, void (*f)(void))
     rounds = 1000;
     double ns = best(f);
     rounds = 1;
-    printf("%-28s %8.1f ns  %6zu octets of stack\n", name, ns, touched(f) - touched(nothing));
+    printf("%-28s %8.1f ns  %6zu octets of stack\n", name, ns, touched(f));
 }
 
 int main(void)
@@ -109,7 +64,7 @@ int main(void)
     report("read TGrq", read_grab);
     report("read TGcf", read_confirm);
     report("read DUrq of 64 ids", read_detach);
-    report("write TGcf", write_confirm);
+    report("write TGcf", write_confirms);
     begin();
     report("grab and release", pass);
     return 0;

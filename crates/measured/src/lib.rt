@@ -1,57 +1,81 @@
-// The codec for a C program to time, and what a message is read as. The sums keep the compiler from leaving the work out.
+// The codec for a C program to time and compare: each way of reading and of writing that the provider has, one function a way. What a way does not
+// read or write goes by the next.
 
-// Reads a message as the provider does: the short way, or straight into the list lent, or by the table of messages. A sum of what was read.
+// The number of a message that a way has not read.
+const NOT_READ: u32 = 64;
+
+// A message of a few ids, the short way: its number, and its values in the cells lent; 64 where it is no such message.
 #[no_mangle]
-pub extern "C" fn read_once(s: &[u8], list: &mut [u16; 64]) -> u32 {
+pub extern "C" fn read_brief(s: &[u8], values: &mut [u16; 3]) -> u32 {
     let q = brief::read_short(s);
     if q.ok {
-        return std::num::wrapping_add_u32(q.number, q.second as u32);
+        *values = [q.first, q.second, q.third];
+        return q.number;
     }
+    NOT_READ
+}
+
+// A message with a list of ids, straight into the list lent: its number, the values before the list, and how many ids; 64 where it is no such message.
+#[no_mangle]
+pub extern "C" fn read_listed(s: &[u8], values: &mut [u16; 3], list: &mut [u16; 64]) -> u32 {
     let l = brief::lists::read_listing(s, list);
     if l.ok {
-        return std::num::wrapping_add_u32(l.number, l.second as u32);
+        *values = [l.first, l.second, (l.count % 65536) as u16];
+        return l.number;
     }
+    NOT_READ
+}
+
+// Any message, by the table of messages: how many ids it lists; in the cells lent its number, its values, and the refusal behind them.
+#[no_mangle]
+pub extern "C" fn read_any(s: &[u8], values: &mut [u32; 6], list: &mut [u16; 64]) -> u32 {
     let h = reader::read_into(s, list);
-    let values = h.values;
-    std::num::wrapping_add_u32(h.number, values[1])
-}
-
-// Writes a message of a number (30, TGcf) into the room lent so many times, each for another token; the sum of the sizes.
-#[no_mangle]
-pub extern "C" fn write_many(out: &mut [u8], number: u32, rounds: u32) -> u32 {
-    let mut sum: u32 = 0;
-    let mut left = rounds;
-    while 0 < left {
-        left -= 1;
-        sum = std::num::wrapping_add_u32(sum, write_one(number, left % 65535 + 1, out));
-    }
-    sum
-}
-
-fn write_one(number: u32, token: u32, out: &mut [u8]) -> u32 {
-    let values = [9, 1007, token, 2];
-    let ids = [0u16; 0];
-    let octets = [0u8; 0];
-    match terse::encode(number, &values, &ids, &octets, out) {
-        sizes::Wrote::Upto(n) => (n % 256) as u32,
-        sizes::Wrote::Not(r) => r as u32,
-    }
-}
-
-// What a message is read as: the number and values, the refusal behind them, and the list; how many ids it has.
-#[no_mangle]
-pub extern "C" fn read_message(octets: &[u8], values: &mut [u32; 6], list: &mut [u16; 64]) -> u32 {
-    let d = brief::decode(octets);
-    let read = d.values;
-    let listed = d.ids;
+    let read = h.values;
     *values = [
-        d.number,
+        h.number,
         read[0],
         read[1],
         read[2],
         read[3],
-        d.refusal as u32,
+        h.refusal as u32,
     ];
-    *list = listed;
-    (d.count % 65536) as u32
+    (h.count % 65536) as u32
+}
+
+// A confirm of a token's request, the short way: how many octets; 0 where it is not written so.
+#[no_mangle]
+pub extern "C" fn write_brief(
+    out: &mut [u8],
+    number: u32,
+    result: u32,
+    user: u32,
+    token: u32,
+    status: u32,
+) -> u32 {
+    let values = [result, user, token, status];
+    let ids = [0u16; 0];
+    let octets = [0u8; 0];
+    if terse::encode_short(number, &values, &ids, &octets, out) {
+        return 7;
+    }
+    0
+}
+
+// The same by the table of messages: how many octets, or 64 and the refusal.
+#[no_mangle]
+pub extern "C" fn write_any(
+    out: &mut [u8],
+    number: u32,
+    result: u32,
+    user: u32,
+    token: u32,
+    status: u32,
+) -> u32 {
+    let values = [result, user, token, status];
+    let ids = [0u16; 0];
+    let octets = [0u8; 0];
+    match writer::encode(number, &values, &ids, &octets, out) {
+        sizes::Wrote::Upto(n) => (n % 64) as u32,
+        sizes::Wrote::Not(r) => 64 + r as u32,
+    }
 }

@@ -1,7 +1,7 @@
 // The short way of writing: the confirms of a token's requests, which a conference sends most. Everything else is written by the table of messages.
 use sizes::Wrote;
 ghost use mathlib.Core.Path.{_≡_};
-ghost use mathlib.Core.Bool.{true};
+ghost use mathlib.Core.Bool.{true, false};
 ghost use mathlib.Core.List.{_++_};
 ghost use lib.ListN.{length, getD, drop};
 ghost use Rattle.sizes.specs.Sizes.{given};
@@ -79,12 +79,23 @@ fn put_confirm(number: u32, values: &[u32], ids: &[u16], octets: &[u8], out: &mu
     out[6] = (values[3] * 32) as u8;
 }
 
+// A confirm at the start of the room, in its 7 octets, where its fields are in range and there is room; else the room is untouched. Whether it is written.
+pub fn encode_short(number: u32, values: &[u32], ids: &[u16], octets: &[u8], out: &mut [u8]) -> bool
+    ensures { λ r. ⌜ (r ≡ true → Encodes (given number (now (values .entry)) (now (ids .entry)) (now (octets .entry))) (now (out .entry)) (Wrote.Upto 7) (now (out .exit)))
+        × (r ≡ false → now (out .exit) ≡ now (out .entry)) ⌝ }
+{
+    if is_short(number, values, ids, octets, out.len()) {
+        put_confirm(number, values, ids, octets, out);
+        return true;
+    }
+    false
+}
+
 // The octets of a message, at the start of the room lent: how many; or a refusal, with the room untouched.
 pub fn encode(number: u32, values: &[u32], ids: &[u16], octets: &[u8], out: &mut [u8]) -> Wrote
     ensures { λ r. ⌜ Encodes (given number (now (values .entry)) (now (ids .entry)) (now (octets .entry))) (now (out .entry)) r (now (out .exit)) ⌝ }
 {
-    if is_short(number, values, ids, octets, out.len()) {
-        put_confirm(number, values, ids, octets, out);
+    if encode_short(number, values, ids, octets, out) {
         return Wrote::Upto(7);
     }
     writer::encode(number, values, ids, octets, out)

@@ -1,21 +1,16 @@
-use Rattle.terse.proofs.TerseLaws.{short-encodes}
+-- Both ways give what the table gives; where the short way declines it leaves the room as it was.
 use borrow.Author.Needs.{needs}
 use Rattle.terse.proofs.encode.Statement.{statement}
 use Rattle.terse.proofs.encode.Tie as tie
 
-is-short-requires : tie.Need-is-short-requires
-is-short-requires c κs = search needs
-
-put-confirm-requires : tie.Need-put-confirm-requires
-put-confirm-requires c κs = c .before .before .is-short .ensures (c .before .if1 .taken)
+encode-short-requires : tie.Need-encode-short-requires
+encode-short-requires c κs = search needs
 
 same-length : tie.Need-same-length
 same-length c = search needs
 
 returns : tie.Need-returns
-returns c =
-    let short = c .before .before .before .before .before .is-short .ensures (c .before .before .before .before .if1 .taken) in
-    short-encodes short _ _ (short .has-room) (c .before .before .put-confirm .ensures)
+returns c = c .before .before .before .encode-short .ensures .0 (c .if1 .taken)
 
 encode-requires : tie.Need-encode-requires
 encode-requires c κs = search needs
@@ -24,16 +19,11 @@ same-length-2 : tie.Need-same-length-2
 same-length-2 c = search needs
 
 returns-2 : tie.Need-returns-2
-returns-2 c = search needs
+returns-2 c =
+    let declined = c .before .before .before .before in
+    rw (declined .before .before .before .encode-short .ensures .1 (declined .if1 .left)) at (c .before .before .encode .ensures)
 
 pub encode-spec : {M : Type 1} → statement M
 encode-spec =
     tie.close
-    (tie.spec
-    is-short-requires
-    put-confirm-requires
-    same-length
-    returns
-    encode-requires
-    same-length-2
-    returns-2)
+    (tie.spec encode-short-requires same-length returns encode-requires same-length-2 returns-2)
