@@ -1,6 +1,6 @@
 -- What is read straight into a list that is lent: ids stored one after the other, and the message that they end. Assumes nothing.
 use mathlib.Core.Path.{_≡_, refl, sym, ap, _∙_}
-use mathlib.Core.Bool.{true, false}
+use mathlib.Core.Bool.{Bool, true, false}
 use mathlib.Core.List.{List, [], _∷_, _++_}
 use Prim.Native.Nat.{ℕ, zero, suc, _+_, _*_, _/_, _%_, _<_, _≤_}
 use native.Mathlib.Numerals.{add-one}
@@ -13,12 +13,12 @@ use Rattle.octets.specs.Octets.{got, follow, give, need, Item, anId, readItem, 
 use Rattle.octets.proofs.OctetLaws.{followed, go-on}
 use Rattle.octets.proofs.Reading.{length-one}
 use Rattle.messages.specs.Limits.{list-limit, message-limit}
-use Rattle.messages.specs.Messages.{Field, plain, row, is-served}
+use Rattle.messages.specs.Messages.{Field, Row, plain, row, is-served}
 use Rattle.messages.specs.Columns.{countAt}
 use Rattle.reader.specs.Held.{padded, isString, decoded}
-use Rattle.brief.specs.declared.lists.Listing.{Listing}
+use Rattle.brief.specs.declared.lists.Head.{Head}
 use Rattle.brief.specs.Shortly.{IdAt}
-use Rattle.brief.specs.Listed.{in-list, Listed, Counts, Stored, Behind}
+use Rattle.brief.specs.Listed.{in-list, Counts, Stored, Heads}
 use Rattle.brief.proofs.ShortLaws.{Takes, whole}
 
 -- one item more
@@ -58,29 +58,35 @@ module _ (s : List ℕ) (at low n : ℕ) (c : Counts s at n) (few : n ≤ list-l
       go-on (λ n. need (leb n list-limit) 8 (readItems (anId low) n)) (sym (length-one s at n (omega (arith, c .whole)) (c .is) (omega arith) .same))
       ∙ simp (le-leb n list-limit few) (h .read ∙ ap (λ l. got (take n ids) l) (drop-of-length-le s {i = at + 1 + 2 * n} (omega (arith, c .whole))))
 
-  pub behind : (number a b : ℕ) → a ≤ 65535 → b ≤ 65535 → Behind s at low number a b (record { ok = true; number = number; first = a; second = b; count = n }) ids
-  behind number a b f g =
-      record {
-        number-is = refl;
-        first-is = refl;
-        second-is = refl;
-        first-most = f;
-        second-most = g;
-        few = omega (arith, c .whole);
-        stored = length-take-le n ids (h .room);
-        read = list-read;
-      }
+-- what is known of a message by its first octet: its row, whether it ends in a string, whether it is served, how many values it has, and the octet's last 2 bits
+abbrev About : Type 0
+About = Row × Bool × Bool × ℕ × ℕ
 
--- a message by its first octet, its fields and its list
-module _ (s : List ℕ) (o : ℕ) (is : o ≡ getD s 0 0) (some : 0 < length s) (byte : o < 256) (b : ℕ) (bits : o % 4 ≡ b) (fs : List Field) (vs : List ℕ) (at low : ℕ) (near : at ≤ 5) where
-  pub listed : row (o / 4) ≡ plain fs (list (anId low) list-limit) → isString (o / 4) ≡ false → is-served (o / 4) ≡ true → countAt (o / 4) ≡ length vs
-      → padded 4 vs ≡ getD vs 0 0 ∷ getD vs 1 0 ∷ 0 ∷ 0 ∷ [] → Takes s 1 2 b fs vs (drop at s)
-      → (l : Listing) (ids : List ℕ) → Behind s at low (o / 4) (getD vs 0 0) (getD vs 1 0) l ids → Listed s l ids
+abbrev pub begins : ℕ → About
+begins o = (row (o / 4), isString (o / 4), is-served (o / 4), countAt (o / 4), o % 4)
+
+-- a message by its first octet and its fields, up to its list
+module _ (s : List ℕ) (o : ℕ) (is : o ≡ getD s 0 0) (some : 0 < length s) (byte : o < 256) (b : ℕ) (fs : List Field) (vs : List ℕ) (at low : ℕ) where
+  pub heads : Takes s 1 2 b fs vs (drop at s) → begins o ≡ (plain fs (list (anId low) list-limit), false, true, length vs, b)
+      → padded 4 vs ≡ getD vs 0 0 ∷ getD vs 1 0 ∷ 0 ∷ 0 ∷ [] → at ≤ 5 → low ≤ 65536
+      → (h : Head) → h ≡ record { ok = true; at = at; low = low; number = o / 4; first = getD vs 0 0; second = getD vs 1 0 } → Heads s h
   unfolding in-list decoded
-  listed row-is no-string served count cells t l ids h =
-      let few : length s ≤ message-limit = omega (arith, h .few) in
-      record {
-        same = rw (h .number-is, h .first-is, h .second-is, whole s o is some few byte b bits fs vs (list (anId low) list-limit) row-is (drop at s) (take (l .count) ids) t (h .read), no-string, count, cells, h .stored) refl;
-        stored = h .stored;
-        served = rw (h .number-is) served;
-      }
+  heads t e cells near most h f =
+      let row-is : row (o / 4) ≡ plain fs (list (anId low) list-limit) = ap (λ (x : About). x .0) e in
+      let no-string : isString (o / 4) ≡ false = ap (λ (x : About). x .1) e in
+      let served : is-served (o / 4) ≡ true = ap (λ (x : About). x .2) e in
+      let count : countAt (o / 4) ≡ length vs = ap (λ (x : About). x .3) e in
+      let bits : o % 4 ≡ b = ap (λ (x : About). x .4) e in
+      rw f
+      (record {
+        near = near;
+        low-most = most;
+        with-list = λ n ids c few l.
+            let stored : length (take n ids) ≡ n = length-take-le n ids (l .room) in
+            let short : length s ≤ message-limit = omega (arith, c .whole) in
+            record {
+              same = rw (whole s o is some short byte b bits fs vs (list (anId low) list-limit) row-is (drop at s) (take n ids) t (list-read s at low n c few ids l), no-string, count, cells, stored) refl;
+              stored = stored;
+              served = served;
+            };
+      })

@@ -4,7 +4,7 @@ use mathlib.Core.Bool.{true, false}
 use mathlib.Core.List.{List, [], _∷_}
 use Prim.Native.Nat.{ℕ, _+_, _*_, _≤_}
 use lib.ListN.{length, getD, take, drop}
-use Rattle.octets.specs.Octets.{got, anId, list, readItems, readTail}
+use Rattle.octets.specs.Octets.{got, anId, readItems}
 use Rattle.messages.specs.Limits.{list-limit}
 use Rattle.messages.specs.Messages.{is-served}
 use Rattle.messages.specs.Columns.{countAt}
@@ -12,6 +12,7 @@ use Rattle.reader.specs.declared.Decoded.{Decoded}
 use Rattle.reader.specs.Held.{padded, decoded}
 use Rattle.reader.specs.Reading.{decodeOf}
 use Rattle.brief.specs.declared.lists.Listing.{Listing}
+use Rattle.brief.specs.declared.lists.Head.{Head}
 
 -- a message with a list as `decode` answers it: its ids are the first of those stored, and every cell that it does not use is 0
 unfoldable pub in-list : Listing → List ℕ → Decoded
@@ -43,13 +44,9 @@ pub record Stored (s : List ℕ) (from low count : ℕ) (ids : List ℕ) : Type 
   pub room : count ≤ length ids
   pub read : readItems (anId low) count (drop from s) ≡ got (take count ids) (drop (from + 2 * count) s)
 
--- a list from an octet to the end is read and stored, behind two values of which none is above 65,535
-pub record Behind (s : List ℕ) (at low number a b : ℕ) (l : Listing) (ids : List ℕ) : Type 0 where
-  pub number-is : l .number ≡ number
-  pub first-is : l .first ≡ a
-  pub second-is : l .second ≡ b
-  pub first-most : a ≤ 65535
-  pub second-most : b ≤ 65535
-  pub few : length s ≤ at + 1 + 2 * list-limit
-  pub stored : length (take (l .count) ids) ≡ l .count
-  pub read : readTail (list (anId low) list-limit) (drop at s) ≡ got (take (l .count) ids) []
+-- a message but for its list, which begins at an octet: whatever ids are stored from there, the long way gives the message with them
+pub record Heads (s : List ℕ) (h : Head) : Type 0 where
+  pub near : h .at ≤ 5
+  pub low-most : h .low ≤ 65536
+  pub with-list : (n : ℕ) (ids : List ℕ) → Counts s (h .at) n → n ≤ list-limit → Stored s (h .at + 1) (h .low) n ids
+      → Listed s (record { ok = true; number = h .number; first = h .first; second = h .second; count = n }) ids

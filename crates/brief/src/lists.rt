@@ -4,7 +4,7 @@ ghost use Prim.Native.Nat.{_+_, _*_, _/_, _<_, _≤_};
 ghost use mathlib.Core.Bool.{true, false};
 ghost use lib.ListN.{length, getD};
 ghost use Rattle.messages.specs.Limits.{list-limit};
-ghost use Rattle.brief.specs.Listed.{Listed, Counts, Stored, Behind};
+ghost use Rattle.brief.specs.Listed.{Listed, Counts, Stored, Heads};
 use crate::id_at;
 use messages::LIST_LIMIT;
 use octets::wide;
@@ -65,90 +65,129 @@ fn ids_at(s: &[u8], from: usize, low: u32, count: usize, listed: &mut [u16; LIST
     true
 }
 
-// A message of these values, and of the ids that octet `at` counts.
-fn of_list(
-    s: &[u8],
+// What stands before a list: whether the message is one of these; then the octet that counts its ids, the lowest id of their kind, the message's number and its values, 0 where it has none.
+struct Head {
+    ok: bool,
     at: usize,
     low: u32,
     number: u32,
-    a: u32,
-    b: u32,
-    listed: &mut [u16; LIST_LIMIT],
-) -> Listing
-    requires { ⌜ (at ≤ 5) × (low ≤ 65536) ⌝ }
-    ensures { λ r. ⌜ (r .ok ≡ true → Behind (now (s .entry)) at low number a b r (now (listed .exit))) ⌝ }
+    first: u16,
+    second: u16,
+}
+
+// None of these messages.
+fn no_head() -> Head
+    ensures { λ r. ⌜ r .ok ≡ false ⌝ }
 {
-    if 65535 < a {
-        return no_listing();
+    Head {
+        ok: false,
+        at: 0,
+        low: 0,
+        number: 0,
+        first: 0,
+        second: 0,
     }
-    if 65535 < b {
-        return no_listing();
-    }
-    let n = counted(s, at);
-    if LIST_LIMIT < n {
-        return no_listing();
-    }
-    if ids_at(s, at + 1, low, n, listed) {
-        return Listing {
-            ok: true,
-            number: number,
-            first: a as u16,
-            second: b as u16,
-            count: n,
-        };
-    }
-    no_listing()
 }
 
 // DUrq: its reason lies in the last 2 bits of the first octet and the first of the next.
-fn reason_and_users(s: &[u8], listed: &mut [u16; LIST_LIMIT]) -> Listing
+fn reason_head(s: &[u8]) -> Head
     requires { ⌜ (1 < length (now s)) × (getD (now s) 0 0 / 4 ≡ 12) ⌝ }
-    ensures { λ r. ⌜ (r .ok ≡ true → Listed (now (s .entry)) r (now (listed .exit))) ⌝ }
+    ensures { λ r. ⌜ (r .ok ≡ true → Heads (now (s .entry)) r) ⌝ }
 {
     let o = wide(s[0]);
     let p = wide(s[1]);
     if p % 128 != 0 {
-        return no_listing();
+        return no_head();
     }
     let reason = o % 4 * 2 + p / 128;
     if 4 < reason {
-        return no_listing();
+        return no_head();
     }
-    of_list(s, 2, 1001, 12, reason, 0, listed)
+    Head {
+        ok: true,
+        at: 2,
+        low: 1001,
+        number: 12,
+        first: reason as u16,
+        second: 0,
+    }
 }
 
-// CArq and CErq: a user, a private channel and users.
-fn ids_and_users(s: &[u8], listed: &mut [u16; LIST_LIMIT]) -> Listing
-    ensures { λ r. ⌜ (r .ok ≡ true → Listed (now (s .entry)) r (now (listed .exit))) ⌝ }
+// CArq and CErq: a user and a private channel.
+fn ids_head(s: &[u8]) -> Head
+    ensures { λ r. ⌜ (r .ok ≡ true → Heads (now (s .entry)) r) ⌝ }
 {
     if s.len() < 6 {
-        return no_listing();
+        return no_head();
     }
     let o = s[0];
+    match o {
+        0x54 | 0x5C => {}
+        _ => return no_head(),
+    }
     let user = id_at(s, 1, 1001);
+    if 65535 < user {
+        return no_head();
+    }
     let channel = id_at(s, 3, 1001);
-    if o == 0x54 {
-        return of_list(s, 5, 1001, 21, user, channel, listed);
+    if 65535 < channel {
+        return no_head();
     }
-    if o == 0x5C {
-        return of_list(s, 5, 1001, 23, user, channel, listed);
+    Head {
+        ok: true,
+        at: 5,
+        low: 1001,
+        number: wide(o) / 4,
+        first: user as u16,
+        second: channel as u16,
     }
-    no_listing()
 }
 
-// The message of these octets, where it is one of those above or CLrq.
-pub fn read_listing(s: &[u8], listed: &mut [u16; LIST_LIMIT]) -> Listing
-    ensures { λ r. ⌜ (r .ok ≡ true → Listed (now (s .entry)) r (now (listed .exit))) ⌝ }
+// What stands before the list, where the message is one of those above or CLrq.
+fn head_of(s: &[u8]) -> Head
+    ensures { λ r. ⌜ (r .ok ≡ true → Heads (now (s .entry)) r) ⌝ }
 {
     if s.len() < 2 {
-        return no_listing();
+        return no_head();
     }
     let o = s[0];
     if o == 0x40 {
-        return of_list(s, 1, 0, 16, 0, 0, listed);
+        return Head {
+            ok: true,
+            at: 1,
+            low: 0,
+            number: 16,
+            first: 0,
+            second: 0,
+        };
     }
     if o / 4 == 12 {
-        return reason_and_users(s, listed);
+        return reason_head(s);
     }
-    ids_and_users(s, listed)
+    ids_head(s)
+}
+
+// The message of these octets, where it is one of those above.
+pub fn read_listing(s: &[u8], listed: &mut [u16; LIST_LIMIT]) -> Listing
+    ensures { λ r. ⌜ (r .ok ≡ true → Listed (now (s .entry)) r (now (listed .exit))) ⌝ }
+{
+    let h = head_of(s);
+    if !h.ok {
+        return no_listing();
+    }
+    let at = h.at;
+    let n = counted(s, at);
+    if LIST_LIMIT < n {
+        return no_listing();
+    }
+    if ids_at(s, at + 1, h.low, n, listed) {
+        return Listing {
+            ok: true,
+            number: h.number,
+            first: h.first,
+            second: h.second,
+            count: n,
+        };
+    }
+    no_listing()
 }

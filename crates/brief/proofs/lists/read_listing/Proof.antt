@@ -1,14 +1,13 @@
-use mathlib.Core.Path.{refl, sym, _∙_}
-use mathlib.Core.List.{[]}
+use mathlib.Core.Path.{sym, _∙_}
 use native.Mathlib.Omega.{arith}
-use Rattle.messages.specs.Messages.{row, entry, is-served}
-use Rattle.messages.specs.Columns.{countAt, tailAt, packedAt, packed}
+use borrow.Author.Tests.{not-false}
 use Rattle.reader.proofs.HeldLaws.{unlike}
-use Rattle.brief.proofs.ShortLaws.{then-more}
-use Rattle.brief.proofs.ListLaws.{listed}
 use borrow.Author.Needs.{needs}
 use Rattle.brief.proofs.lists.read_listing.Statement.{statement}
 use Rattle.brief.proofs.lists.read_listing.Tie as tie
+
+head-of-requires : tie.Need-head-of-requires
+head-of-requires c κs = search needs
 
 no-listing-requires : tie.Need-no-listing-requires
 no-listing-requires c κs = search needs
@@ -16,40 +15,50 @@ no-listing-requires c κs = search needs
 returns : tie.Need-returns
 returns c k = absurd (unlike (sym (c .no-listing .ensures) ∙ k))
 
-shared-slice-read-o : tie.Need-shared-slice-read-o
-shared-slice-read-o c = search needs
+counted-requires : tie.Need-counted-requires
+counted-requires c κs = c .before .before .head-of .ensures (not-false _ (c .if1 .left)) .near
 
-of-list-requires : tie.Need-of-list-requires
-of-list-requires c κs = search needs
+no-listing-requires-2 : tie.Need-no-listing-requires-2
+no-listing-requires-2 c κs = search needs
 
 returns-2 : tie.Need-returns-2
-unfolding row entry is-served countAt tailAt packedAt packed
-returns-2 c k =
-    let s = c .before .before .before .before .before .before .args .s .now in
-    listed s 0x40 (sym (c .before .before .if2 .taken)) (search needs) (omega arith) 0 refl [] [] 1 0 (omega arith) refl refl refl refl refl then-more _ _ (c .of-list .ensures k)
+returns-2 c k = absurd (unlike (sym (c .no-listing2 .ensures) ∙ k))
 
-reason-and-users-requires : tie.Need-reason-and-users-requires
-reason-and-users-requires c κs = search needs
+add-ids-at : tie.Need-add-ids-at
+add-ids-at c =
+    let i = c .before .before in
+    omega (arith, i .before .before .head-of .ensures (not-false _ (i .if1 .left)) .near)
+
+ids-at-requires : tie.Need-ids-at-requires
+ids-at-requires c κs =
+    let i = c .before .before .before in
+    let n = c .before .before .counted in
+    (omega (arith, n .ensures (search needs) .whole), search needs, i .before .before .head-of .ensures (not-false _ (i .if1 .left)) .low-most)
 
 returns-3 : tie.Need-returns-3
-returns-3 c = search needs
+returns-3 c k =
+    let i = c .before .before .before .before .before in
+    let n = c .before .before .before .before .counted in
+    i .before .before .head-of .ensures (not-false _ (i .if1 .left)) .with-list _ _ (n .ensures (search needs)) (search needs) (c .before .ids-at .ensures (c .if3 .taken))
 
-ids-and-users-requires : tie.Need-ids-and-users-requires
-ids-and-users-requires c κs = search needs
+no-listing-requires-3 : tie.Need-no-listing-requires-3
+no-listing-requires-3 c κs = search needs
 
 returns-4 : tie.Need-returns-4
-returns-4 c = search needs
+returns-4 c k = absurd (unlike (sym (c .no-listing3 .ensures) ∙ k))
 
 pub read-listing-spec : {M : Type 1} → statement M
 read-listing-spec =
     tie.close
     (tie.spec
+    head-of-requires
     no-listing-requires
     returns
-    shared-slice-read-o
-    of-list-requires
+    counted-requires
+    no-listing-requires-2
     returns-2
-    reason-and-users-requires
+    add-ids-at
+    ids-at-requires
     returns-3
-    ids-and-users-requires
+    no-listing-requires-3
     returns-4)
