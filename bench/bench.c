@@ -131,18 +131,30 @@ static struct message plain_last;
 static void our_mix(void) { for (size_t i = 0; i < count; i++) sink = by_ours(&events[i], ROOM); }
 static void plain_mix(void) { for (size_t i = 0; i < count; i++) sink = by_plain(&events[i], ROOM); }
 
-/* A work of the codec: many times over, to be timed; and once, for its stack, without the loop's own. */
-#define WORK(name, ...) \
-    static void name(void) { for (uint32_t i = 0; i < rounds; i++) { __VA_ARGS__ } } \
-    static void name##_once(void) { const uint32_t i = 0; (void)i; __VA_ARGS__ }
+static void our_grab(void) { for (uint32_t i = 0; i < rounds; i++) read_message(grab, sizeof grab); sink = heard.number; }
+static void plain_grab(void) { for (uint32_t i = 0; i < rounds; i++) plain_read(grab, sizeof grab, &plain_last); sink = plain_last.number; }
+static void our_detach(void) { for (uint32_t i = 0; i < rounds; i++) read_message(detach, sizeof detach); sink = heard.number; }
+static void plain_detach(void) { for (uint32_t i = 0; i < rounds; i++) plain_read(detach, sizeof detach, &plain_last); sink = plain_last.number; }
 
-WORK(our_grab, read_message(grab, sizeof grab); sink = heard.number;)
-WORK(plain_grab, plain_read(grab, sizeof grab, &plain_last); sink = plain_last.number;)
-WORK(our_detach, read_message(detach, sizeof detach); sink = heard.number;)
-WORK(plain_detach, plain_read(detach, sizeof detach, &plain_last); sink = plain_last.number;)
 /* TGcf token-not-available by 1007, otherGrabbed, each for another token. */
-WORK(our_write, sink = write_confirm(room, sizeof room, 30, 9, 1007, i + 1, 2);)
-WORK(plain_write, size n = 0; int r = plain_write_confirm(room, sizeof room, 30, 9, 1007, i + 1, 2, &n); sink = r ? 64 + (uint32_t)r : (uint32_t)n;)
+static void our_write(void) { for (uint32_t i = 0; i < rounds; i++) sink = write_confirm(room, sizeof room, 30, 9, 1007, i + 1, 2); }
+static void plain_write(void)
+{
+    for (uint32_t i = 0; i < rounds; i++) {
+        size n = 0;
+        int r = plain_write_confirm(room, sizeof room, 30, 9, 1007, i + 1, 2, &n);
+        sink = r ? 64 + (uint32_t)r : (uint32_t)n;
+    }
+}
+
+/* The functions that these call, each once: for their stack, without the loop's own. */
+static size written;
+static void our_grab_once(void) { read_brief(grab, sizeof grab, heard.values); }
+static void plain_grab_once(void) { plain_read(grab, sizeof grab, &plain_last); }
+static void our_detach_once(void) { read_brief(detach, sizeof detach, heard.values); read_listed(detach, sizeof detach, heard.values, heard.list); }
+static void plain_detach_once(void) { plain_read(detach, sizeof detach, &plain_last); }
+static void our_write_once(void) { write_brief(room, sizeof room, 30, 9, 1007, 1, 2); }
+static void plain_write_once(void) { plain_write_confirm(room, sizeof room, 30, 9, 1007, 1, 2, &written); }
 
 /* A domain with one user, who grabs a token and releases it. */
 static const uint8_t attach[] = {0x28}; /* AUrq */

@@ -147,7 +147,7 @@ fn ids_head(s: &[u8]) -> Head
 fn head_of(s: &[u8]) -> Head
     ensures { λ r. ⌜ (r .ok ≡ true → Heads (now (s .entry)) r) ⌝ }
 {
-    if s.len() < 2 {
+    if s.len() < 3 {
         return no_head();
     }
     let o = s[0];
