@@ -56,6 +56,14 @@ pub used-one : (x : ℕ) → (x ≡ 0 → ⊥) → 1 ≡ used (x ∷ [])
 unfolding used keep
 used-one x n = rw (lt-ltb 0 x (omega arith))
 
+-- where the last place is free not all are in use
+pub used-last : (ids : List ℕ) (m : ℕ) → length ids ≡ suc m → getD ids m 0 ≡ 0 → used ids ≤ m
+used-last ids m e z =
+    let turn = used-turn ids m (omega arith) in
+    let most = used-within (take m ids) in
+    let none = used-none (getD ids m 0) z in
+    omega (arith, used-end ids (suc m) (omega arith), length-take m ids)
+
 -- ---- the least id above another
 
 module _ (low best x : ℕ) where
