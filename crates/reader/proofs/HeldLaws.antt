@@ -1,6 +1,6 @@
 -- Cells behind the last value are 0, and what `decode` answers by its fields. Assumes nothing.
 use mathlib.Core.Path.{_≡_, refl, sym, ap, _∙_, subst}
-use mathlib.Core.Bool.{Bool, true, false, cond, not}
+use mathlib.Core.Bool.{Bool, true, false, cond, not, false≢true}
 use mathlib.Core.List.{List, [], _++_}
 use Prim.Native.Nat.{ℕ, suc, _+_, _-_, _<_, _≤_}
 use native.Mathlib.Omega.{arith}
@@ -14,9 +14,6 @@ use Rattle.messages.proofs.CodecLaws.{wrong}
 use Rattle.messages.specs.Codec.{Msg, Outcome, ok, refuse}
 use Rattle.reader.specs.Held.{padded, isString, noMessage, decoded, headOf, kept, Reads}
 use Rattle.reader.specs.declared.Head.{Head}
-
-pub unlike : false ≡ true → ⊥
-unlike e = let z : _≡_ {A = ℕ} 0 1 = cc in omega arith
 
 module _ (k i : ℕ) (vs : List ℕ) (e : drop i vs ≡ replicate (k - i) 0) where
   pub clear-more : (v : ℕ) → i < k → drop (i + 1) (set vs i v) ≡ replicate (k - (i + 1)) 0
@@ -58,9 +55,9 @@ pub decoded-is : (s ids : List ℕ) (h : Head) (o : Outcome Msg) → Reads s o (
     → record { ok = true; refusal = 0; number = h .number; have = h .have; values = h .values; count = h .count; octets = h .octets; start = h .start; ids = ids } ≡ decoded s o
 unfolding decoded headOf noMessage
 decoded-is s ids h (ok m) r e none = rw (r .head, r .list m refl, kept-clear m (none m refl))
-decoded-is s ids h (refuse n) r e none = absurd (unlike (sym (ap (λ (x : Head). x .ok) (r .head)) ∙ e))
+decoded-is s ids h (refuse n) r e none = absurd (false≢true (sym (ap (λ (x : Head). x .ok) (r .head)) ∙ e))
 
 pub no-message-is : (s ids before : List ℕ) (h : Head) (o : Outcome Msg) → Reads s o before ids h → h .ok ≡ false → noMessage (h .refusal) ≡ decoded s o
 unfolding decoded headOf noMessage
-no-message-is s ids before h (ok m) r e = absurd (unlike (sym e ∙ ap (λ (x : Head). x .ok) (r .head)))
+no-message-is s ids before h (ok m) r e = absurd (false≢true (sym e ∙ ap (λ (x : Head). x .ok) (r .head)))
 no-message-is s ids before h (refuse n) r e = ap (λ (x : Head). noMessage (x .refusal)) (r .head)

@@ -1,6 +1,6 @@
 -- A list's items: what `read_ids`, `read_octets`, `read_list` and `read_tail` answer. Assumes nothing.
 use mathlib.Core.Path.{_≡_, refl, sym, ap, _∙_, subst}
-use mathlib.Core.Bool.{Bool, true, false, cond}
+use mathlib.Core.Bool.{Bool, true, false, cond, false≢true}
 use mathlib.Core.List.{List, [], _∷_, _++_, append-assoc, append-nil}
 use Prim.Native.Nat.{ℕ, zero, suc, _+_, _-_, _%_, _<_, _≤_}
 use native.Mathlib.Nat.{mod-eq-of-lt, sub-zero}
@@ -19,7 +19,7 @@ use Rattle.messages.specs.Columns.{tailOf}
 use Rattle.reader.specs.Reading.{listed, restOf, ReadsItems}
 use Rattle.reader.specs.declared.Items.{Items}
 use Rattle.reader.specs.Held.{padded, hasIds}
-use Rattle.reader.proofs.HeldLaws.{clear-more, padded-all, unlike}
+use Rattle.reader.proofs.HeldLaws.{clear-more, padded-all}
 use Rattle.octets.specs.declared.Got.{Got}
 use Rattle.octets.specs.declared.Got.the-variants.{Value, No}
 
@@ -38,7 +38,7 @@ octets-are (suc n) (x ∷ xs) h = ap (λ r. follow r (λ us. give (x ∷ us))) (
 
 pub items-no : (s : List ℕ) (octets ids : Bool) (r : Items) (n : ℕ) (spec : Read (List ℕ)) {before after : List ℕ} → (r .ok ≡ false) × (r .refusal ≡ n) × (r .next ≡ 0) → spec ≡ no n
     → ReadsItems s octets ids r before after spec
-items-no s octets ids r n spec h e = record { same = rw (h .0, h .1) (sym e); inside = omega arith; holds = λ k. absurd (unlike (sym (h .0) ∙ k)) }
+items-no s octets ids r n spec h e = record { same = rw (h .0, h .1) (sym e); inside = omega arith; holds = λ k. absurd (false≢true (sym (h .0) ∙ k)) }
 
 module _ (s : List ℕ) (from count : ℕ) (h : from ≤ length s) where
   pub octets-no : (r : Items) (ids : List ℕ) → (r .ok ≡ false) × (r .refusal ≡ 5) × (r .next ≡ 0) → length s < from + count → ReadsItems s true false r ids ids (readItems anOctet count (drop from s))

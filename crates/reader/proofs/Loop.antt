@@ -1,6 +1,6 @@
 -- A message's fields, one after the other: the invariant of `take_fields`. Assumes nothing.
 use mathlib.Core.Path.{_≡_, refl, sym, ap, _∙_, subst}
-use mathlib.Core.Bool.{true, false}
+use mathlib.Core.Bool.{true, false, false≢true}
 use mathlib.Core.List.{List, [], _∷_, _++_, append-assoc, append-nil}
 use Prim.Native.Nat.{ℕ, suc, _+_, _-_, _*_, _<_, _≤_}
 use native.Mathlib.Numerals.{add-one}
@@ -15,7 +15,7 @@ use Rattle.octets.specs.Places.{leftAt, bitsAt, behind}
 use Rattle.reader.specs.Reading.{TakesField, TakesFields}
 use Rattle.reader.specs.declared.Fields.{Fields}
 use Rattle.reader.specs.Held.{padded}
-use Rattle.reader.proofs.HeldLaws.{clear-more, padded-all, unlike}
+use Rattle.reader.proofs.HeldLaws.{clear-more, padded-all}
 use Rattle.octets.specs.declared.Got.{Got}
 use Rattle.octets.specs.declared.Got.the-variants.{Value, No}
 use Rattle.messages.proofs.ColumnLaws.{length-fields, field-at}
@@ -56,7 +56,7 @@ module _ {s : List ℕ} {from : ℕ} {fs : List Field} {values : List ℕ} {at i
       record {
         same = rw (k, l) (sym (o .read ∙ ap (λ x. prepend (take i values) x) (step ∙ ap (λ x. follow x (λ v. λ os. follow (takeFields (drop (suc i) fs) (leftAfter f (leftAt at)) (v .1) os) (λ r. give (v .0 ∷ r .0, r .1)))) (sym (t .same)))));
         inside = h;
-        cells = λ t. absurd (unlike (sym k ∙ t));
+        cells = λ t. absurd (false≢true (sym k ∙ t));
       }
 
   pub sofar-more : (v next : ℕ) → TakesField s at f (Value v next) → i < 4 → Sofar s from fs (set values i v) next (i + 1)

@@ -1,6 +1,6 @@
 -- A message by its number: what `decode_row` and `decode` answer. Assumes nothing.
 use mathlib.Core.Path.{_≡_, refl, sym, ap, _∙_, subst}
-use mathlib.Core.Bool.{Bool, true, false, cond}
+use mathlib.Core.Bool.{Bool, true, false, cond, false≢true}
 use mathlib.Core.List.{List, [], _∷_}
 use Prim.Native.Nat.{ℕ, suc, _+_, _*_, _<_, _≤_}
 use native.Mathlib.Nat.{add-zero, mod-one}
@@ -19,7 +19,6 @@ use Rattle.reader.specs.Reading.{TakesField, message, bodyAt, rowAt, onw
 use Rattle.messages.specs.Columns.{formAt, countAt, tailAt, fieldsOf, tailOf, lastField, rowFrom}
 use Rattle.octets.specs.declared.Got.{Got}
 use Rattle.octets.specs.declared.Got.the-variants.{Value, No}
-use Rattle.reader.proofs.HeldLaws.{unlike}
 use Rattle.messages.proofs.NamedLaws.{read-fits}
 use Rattle.messages.proofs.ColumnLaws.{row-from, one-more, no-tail, count-few, count-one-more}
 
@@ -121,8 +120,8 @@ none-fit n vs items z fits = go (eqb (formAt n) 0) (eqb (formAt n) 1) (eqb (form
     go : (a b c : Bool) → fitsRow (cond a (plain (fieldsOf n (countAt n)) nothing) (cond b (optional (fieldsOf n (countAt n)) (lastField n)) (cond c uncovered unknown))) vs items ≡ true → items ≡ []
     go true b c e = items-none items (both-right (fitsFields (fieldsOf n (countAt n)) vs) (eqb (length items) 0) e)
     go false true c e = items-none items (both-right (fitsFields (chosen (ltb (length (fieldsOf n (countAt n))) (length vs)) (fieldsOf n (countAt n)) (lastField n)) vs) (eqb (length items) 0) e)
-    go false false true e = absurd (unlike e)
-    go false false false e = absurd (unlike e)
+    go false false true e = absurd (false≢true e)
+    go false false false e = absurd (false≢true e)
 
 pub none-read : (s : List ℕ) → Bytes s → (m : Msg) → decode s ≡ ok m → tailAt (m .number) ≡ 0 → m .items ≡ []
 none-read s y m e z = none-fit (m .number) (m .values) (m .items) z (rw row-from at (read-fits s y m e))

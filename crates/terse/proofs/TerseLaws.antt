@@ -76,9 +76,6 @@ no-items kind = go (eqb kind 3)
     go true = refl
     go false = refl
 
-pub unlike : false ≡ true → ⊥
-unlike e = let z : _≡_ {A = ℕ} 0 1 = cc in omega arith
-
 -- what goes the short way: its octets, before what stood behind them
 module _ {n : ℕ} {values ids octets : List ℕ} {size : ℕ} (short : Short n values ids octets size) where
   pub number-small : n ≤ 40

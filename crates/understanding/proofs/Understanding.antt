@@ -1,6 +1,6 @@
 -- What is understood of octets, test by test, and that a request as the code holds it asks for what the message does. Assumes nothing.
 use mathlib.Core.Path.{_≡_, refl, sym, ap, ap₂, _∙_, subst}
-use mathlib.Core.Bool.{Bool, true, false, not, cond, _&&_, _||_}
+use mathlib.Core.Bool.{Bool, true, false, not, cond, _&&_, _||_, false≢true}
 use mathlib.Core.List.{List, [], _∷_, _++_}
 use Prim.Native.Nat.{ℕ, _-_, _/_, _%_, _≤_, _<_}
 use native.Mathlib.Omega.{arith}
@@ -27,7 +27,6 @@ use Rattle.brief.specs.declared.Short.{Short}
 use Rattle.brief.specs.Shortly.{in-full, few-ids, Shortly}
 use Rattle.brief.specs.declared.lists.Listing.{Listing}
 use Rattle.brief.specs.Listed.{in-list, Listed}
-use Rattle.reader.proofs.HeldLaws.{unlike}
 use Rattle.domain.specs.Numbers.{replyNumber}
 use Rattle.domain.specs.declared.numbers.Reply.the-variants.{Done}
 use Rattle.domain.specs.Tables.{Domain}
@@ -132,44 +131,44 @@ request-act new d p ids (EDrq h i) l f s = refl
 request-act new d p ids (DPum n) l f s = refl
 request-act new d p ids (RJum n os) l f s = refl
 request-act new d p ids AUrq l f s = refl
-request-act new d p ids (AUcf n u) l f s = absurd (unlike s)
+request-act new d p ids (AUcf n u) l f s = absurd (false≢true s)
 request-act new d p ids (DUrq n us) l f s =
     let r = ranges (DUrq n us) f in
     let z : n % 65536 % 8 ≡ n = omega (arith, r .0 .most) in
     ap₂ (λ (a : ℕ) (l : List ℕ). act new d p (DUrq a l)) z (l refl)
-request-act new d p ids (DUin n us) l f s = absurd (unlike s)
+request-act new d p ids (DUin n us) l f s = absurd (false≢true s)
 request-act new d p ids (CJrq u c) l f s = let r = ranges (CJrq u c) f in ap (act new d p) (two u c (r .0 .most) (r .1 .most) CJrq)
-request-act new d p ids (CJcf n u a c) l f s = absurd (unlike s)
+request-act new d p ids (CJcf n u a c) l f s = absurd (false≢true s)
 request-act new d p ids (CLrq cs) l f s = ap (λ (l : List ℕ). act new d p (CLrq l)) (l refl)
 request-act new d p ids (CCrq u) l f s = let r = ranges (CCrq u) f in ap (λ (a : ℕ). act new d p (CCrq a)) (small u (r .most))
-request-act new d p ids (CCcf n u c) l f s = absurd (unlike s)
+request-act new d p ids (CCcf n u c) l f s = absurd (false≢true s)
 request-act new d p ids (CDrq u c) l f s = let r = ranges (CDrq u c) f in ap (act new d p) (two u c (r .0 .most) (r .1 .most) CDrq)
-request-act new d p ids (CDin c) l f s = absurd (unlike s)
+request-act new d p ids (CDin c) l f s = absurd (false≢true s)
 request-act new d p ids (CArq u c us) l f s =
     let r = ranges (CArq u c us) f in
     ap (act new d p) (two-list u c (r .0 .most) (r .1 .most) CArq ids us (l refl))
-request-act new d p ids (CAin u c us) l f s = absurd (unlike s)
+request-act new d p ids (CAin u c us) l f s = absurd (false≢true s)
 request-act new d p ids (CErq u c us) l f s =
     let r = ranges (CErq u c us) f in
     ap (act new d p) (two-list u c (r .0 .most) (r .1 .most) CErq ids us (l refl))
-request-act new d p ids (CEin c us) l f s = absurd (unlike s)
+request-act new d p ids (CEin c us) l f s = absurd (false≢true s)
 request-act new d p ids (TGrq u k) l f s = let r = ranges (TGrq u k) f in ap (act new d p) (two u k (r .0 .most) (r .1 .most) TGrq)
-request-act new d p ids (TGcf n u k t) l f s = absurd (unlike s)
+request-act new d p ids (TGcf n u k t) l f s = absurd (false≢true s)
 request-act new d p ids (TIrq u k) l f s = let r = ranges (TIrq u k) f in ap (act new d p) (two u k (r .0 .most) (r .1 .most) TIrq)
-request-act new d p ids (TIcf n u k t) l f s = absurd (unlike s)
+request-act new d p ids (TIcf n u k t) l f s = absurd (false≢true s)
 request-act new d p ids (TVrq u k v) l f s = let r = ranges (TVrq u k v) f in ap (act new d p) (three u k (r .0 .most) (r .1 .most) TVrq v (r .2 .most))
-request-act new d p ids (TVin u k v) l f s = absurd (unlike s)
+request-act new d p ids (TVin u k v) l f s = absurd (false≢true s)
 request-act new d p ids (TVrs n v k) l f s =
     let r = ranges (TVrs n v k) f in
     let z : n % 65536 % 16 ≡ n = omega (arith, r .0 .most) in
     ap (act new d p) (ap (λ (a : ℕ). TVrs a (v % 65536) (k % 65536)) z ∙ two v k (r .1 .most) (r .2 .most) (TVrs n))
-request-act new d p ids (TVcf n u k t) l f s = absurd (unlike s)
+request-act new d p ids (TVcf n u k t) l f s = absurd (false≢true s)
 request-act new d p ids (TPrq u k) l f s = let r = ranges (TPrq u k) f in ap (act new d p) (two u k (r .0 .most) (r .1 .most) TPrq)
-request-act new d p ids (TPin u k) l f s = absurd (unlike s)
+request-act new d p ids (TPin u k) l f s = absurd (false≢true s)
 request-act new d p ids (TRrq u k) l f s = let r = ranges (TRrq u k) f in ap (act new d p) (two u k (r .0 .most) (r .1 .most) TRrq)
-request-act new d p ids (TRcf n u k t) l f s = absurd (unlike s)
+request-act new d p ids (TRcf n u k t) l f s = absurd (false≢true s)
 request-act new d p ids (TTrq u k) l f s = let r = ranges (TTrq u k) f in ap (act new d p) (two u k (r .0 .most) (r .1 .most) TTrq)
-request-act new d p ids (TTcf u k t) l f s = absurd (unlike s)
+request-act new d p ids (TTcf u k t) l f s = absurd (false≢true s)
 
 -- ---- what is read
 number-is : (os : List ℕ) (x : Msg) → decode os ≡ ok x → x .number ≡ number-in os
@@ -186,8 +185,8 @@ no-string kind h = go (eqb kind 0) (eqb kind 3) h
   where
     go : (a b : Bool) → cond a false (not b) ≡ true → b ≡ false
     go a false e = refl
-    go true true e = absurd (unlike e)
-    go false true e = absurd (unlike e)
+    go true true e = absurd (false≢true e)
+    go false true e = absurd (false≢true e)
 
 module _ (os : List ℕ) (x : Msg) (listed : List ℕ) where
   decoded-ids : hasIds (tailAt (x .number)) ≡ true → decoded os (ok x) .ids ≡ padded 64 (x .items)
@@ -221,7 +220,7 @@ module _ (os : List ℕ) (dec : Decoded) (u : Understood) (a : Asked (headOf dec
       go (ok x) f = read-named os y x f λ m is same.
           served-asks m (e ∙ ap (decoded os) (f ∙ ap ok (sym same))) (heard-formed os y m is)
           (ap is-served (ap (λ (z : Msg). z .number) same ∙ number-is os x f) ∙ s) (i ∙ ap (read-as os) is)
-      go (refuse n) f = absurd (unlike (sym (ap (λ (z : Decoded). z .ok) (e ∙ ap (decoded os) f)) ∙ k))
+      go (refuse n) f = absurd (false≢true (sym (ap (λ (z : Decoded). z .ok) (e ∙ ap (decoded os) f)) ∙ k))
 
 -- the long way
 module _ (os : List ℕ) (h : Head) (before listed : List ℕ) (w : Reads os (decode os) before listed h) (u : Understood) (i : understood os ≡ read-as os (heard os)) where
@@ -236,14 +235,14 @@ module _ (os : List ℕ) (h : Head) (before listed : List ℕ) (w : Reads os (de
       go (ok x) f =
           asked-asks os (decoded os (ok x)) u (subst (λ (z : Head). Asked z u) (head-is (ok x) f) a) listed
           (kept-lists os x listed before (w .list x f)) (ap (decoded os) (sym f)) i y refl s
-      go (refuse n) f = absurd (unlike (sym (ap (λ (z : Head). z .ok) (head-is (refuse n) f)) ∙ k))
+      go (refuse n) f = absurd (false≢true (sym (ap (λ (z : Head). z .ok) (head-is (refuse n) f)) ∙ k))
 
   pub codec-asks : h .ok ≡ false → replyNumber (u .reply) ≡ reply-for (h .refusal) → Understands os u listed
   unfolding decoded noMessage headOf read-as
   codec-asks k r = go (decode os) refl
     where
       go : (o : Outcome Msg) → decode os ≡ o → Understands os u listed
-      go (ok x) f = absurd (unlike (sym k ∙ ap (λ (z : Head). z .ok) (head-is (ok x) f)))
+      go (ok x) f = absurd (false≢true (sym k ∙ ap (λ (z : Head). z .ok) (head-is (ok x) f)))
       go (refuse n) f =
           let z : h .refusal ≡ n = ap (λ (z : Head). z .refusal) (head-is (refuse n) f) in
           refuses-asks os n u listed (i ∙ ap (read-as os) (refused-heard os n f)) (r ∙ ap reply-for z ∙ reply-for-is n (refusals os n f)) (refusal-some n (refusals os n f))
@@ -259,7 +258,7 @@ unfolding is-served entry
 served-known n h = go (ltb 42 n) refl
   where
     go : (b : Bool) → ltb 42 n ≡ b → n ≤ 42
-    go true e = absurd (unlike (rw (List·getD-eq-default table (down, unknown) {n = n} (omega (arith, ltb-true 42 n e))) at h))
+    go true e = absurd (false≢true (rw (List·getD-eq-default table (down, unknown) {n = n} (omega (arith, ltb-true 42 n e))) at h))
     go false e = omega (arith, ltb-false 42 n e)
 
 served-understood : (os : List ℕ) (x : Msg) → decode os ≡ ok x → is-served (number-in os) ≡ true → understood os ≡ read-as os (heard os)
@@ -278,7 +277,7 @@ module _ (os : List ℕ) (dec : Decoded) (e : dec ≡ decoded os (decode os)) (k
       go (ok x) f =
           let n : is-served (number-in os) ≡ true = ap is-served (sym (ap (λ (z : Decoded). z .number) (e ∙ ap (decoded os) f) ∙ number-is os x f)) ∙ s in
           asked-asks os dec u r listed l e (served-understood os x f n) y k n
-      go (refuse n) f = absurd (unlike (sym (ap (λ (z : Decoded). z .ok) (e ∙ ap (decoded os) f)) ∙ k))
+      go (refuse n) f = absurd (false≢true (sym (ap (λ (z : Decoded). z .ok) (e ∙ ap (decoded os) f)) ∙ k))
 
 -- a message with a list
 pub list-asks : (os : List ℕ) → Bytes os → (u : Understood) (listed : List ℕ) (l : Listing) → Listed os l listed → l .first < 65536 → l .second < 65536
@@ -328,7 +327,7 @@ few-unlisted n h = go (ltb 28 n) (eqb n 10) (eqb n 14) (eqb n 17) (eqb n 19) ref
     go false false true c d e f g i j h = at 14 refl g
     go false false false true d e f g i j h = at 17 refl i
     go false false false false true e f g i j h = at 19 refl j
-    go false false false false false e f g i j h = absurd (unlike h)
+    go false false false false false e f g i j h = absurd (false≢true h)
 
 -- read the short way, it asks for what it is understood to
 module _ (os : List ℕ) (y : Bytes os) (q : Short) (h : Shortly os q) (a : q .first < 65536) (b : q .second < 65536) (c : q .third < 65536) where

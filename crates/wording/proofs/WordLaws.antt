@@ -2,7 +2,7 @@
 use Prim.Native.Nat.{ℕ, zero, suc, _+_, _-_, _*_, _≤_, _<_}
 use Prim.Native.String.{String}
 use mathlib.Core.Path.{_≡_, refl, sym, ap, _∙_}
-use mathlib.Core.Bool.{Bool, true, false, cond, not, _&&_}
+use mathlib.Core.Bool.{Bool, true, false, cond, not, _&&_, false≢true}
 use mathlib.Core.List.{List, [], _∷_, _++_, append-nil, append-assoc}
 use native.Mathlib.Omega.{arith}
 use native.Mathlib.Numerals.{add-one}
@@ -42,9 +42,6 @@ unfolding front
 front-end {s} {i} f h =
     record { same = sym (append-nil (take i s)) ∙ ap (λ l. take i s ++ l) (sym (rw (drop-of-length-le s {i = i} h) refl)) ∙ f .same; inside = f .inside }
 
-no-dot : false ≡ true → ⊥
-no-dot e = let z : _≡_ {A = ℕ} 0 1 = cc in omega arith
-
 -- what a test of two tells of each
 and-left : (a b : Bool) → (a && b) ≡ true → a ≡ true
 and-left true b e = refl
@@ -52,7 +49,7 @@ and-left false b e = e
 
 and-right : (a b : Bool) → (a && b) ≡ true → b ≡ true
 and-right true b e = e
-and-right false b e = absurd (no-dot e)
+and-right false b e = absurd (false≢true e)
 
 -- a text with no dot stands before the dots
 plain : List ℕ → Bool

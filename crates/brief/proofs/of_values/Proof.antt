@@ -1,5 +1,5 @@
 use mathlib.Core.Path.{sym, _∙_}
-use Rattle.reader.proofs.HeldLaws.{unlike}
+use mathlib.Core.Bool.{false≢true}
 use borrow.Author.Needs.{needs}
 use Rattle.brief.proofs.of_values.Statement.{statement}
 use Rattle.brief.proofs.of_values.Tie as tie
@@ -8,19 +8,19 @@ not-short-requires : tie.Need-not-short-requires
 not-short-requires c κs = search needs
 
 returns : tie.Need-returns
-returns c k = absurd (unlike (sym (c .not-short .ensures) ∙ k))
+returns c k = absurd (false≢true (sym (c .not-short .ensures) ∙ k))
 
 not-short-requires-2 : tie.Need-not-short-requires-2
 not-short-requires-2 c κs = search needs
 
 returns-2 : tie.Need-returns-2
-returns-2 c k = absurd (unlike (sym (c .not-short2 .ensures) ∙ k))
+returns-2 c k = absurd (false≢true (sym (c .not-short2 .ensures) ∙ k))
 
 not-short-requires-3 : tie.Need-not-short-requires-3
 not-short-requires-3 c κs = search needs
 
 returns-3 : tie.Need-returns-3
-returns-3 c k = absurd (unlike (sym (c .not-short3 .ensures) ∙ k))
+returns-3 c k = absurd (false≢true (sym (c .not-short3 .ensures) ∙ k))
 
 cast-t7 : tie.Need-cast-t7
 cast-t7 c = search needs

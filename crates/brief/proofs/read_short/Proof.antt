@@ -1,5 +1,5 @@
 use mathlib.Core.Path.{sym, _∙_}
-use Rattle.reader.proofs.HeldLaws.{unlike}
+use mathlib.Core.Bool.{false≢true}
 use borrow.Author.Needs.{needs}
 use Rattle.brief.proofs.read_short.Statement.{statement}
 use Rattle.brief.proofs.read_short.Tie as tie
@@ -38,7 +38,7 @@ not-short-requires : tie.Need-not-short-requires
 not-short-requires c κs = search needs
 
 returns-6 : tie.Need-returns-6
-returns-6 c k = absurd (unlike (sym (c .not-short .ensures) ∙ k))
+returns-6 c k = absurd (false≢true (sym (c .not-short .ensures) ∙ k))
 
 pub read-short-spec : {M : Type 1} → statement M
 read-short-spec =

@@ -1,7 +1,7 @@
 use mathlib.Core.Path.{refl, sym, _∙_}
+use mathlib.Core.Bool.{false≢true}
 use Rattle.messages.specs.Messages.{row, entry, is-served}
 use Rattle.messages.specs.Columns.{tailAt, packedAt, packed}
-use Rattle.reader.proofs.HeldLaws.{unlike}
 use Rattle.brief.specs.Shortly.{few-ids}
 use Rattle.brief.proofs.ShortLaws.{none-left, id-before, result-before, shortly}
 use borrow.Author.Needs.{needs}
@@ -24,13 +24,13 @@ not-short-requires : tie.Need-not-short-requires
 not-short-requires c κs = search needs
 
 returns : tie.Need-returns
-returns c k = absurd (unlike (sym (c .not-short .ensures) ∙ k))
+returns c k = absurd (false≢true (sym (c .not-short .ensures) ∙ k))
 
 not-short-requires-2 : tie.Need-not-short-requires-2
 not-short-requires-2 c κs = search needs
 
 returns-2 : tie.Need-returns-2
-returns-2 c k = absurd (unlike (sym (c .not-short2 .ensures) ∙ k))
+returns-2 c k = absurd (false≢true (sym (c .not-short2 .ensures) ∙ k))
 
 mul-of-values : tie.Need-mul-of-values
 mul-of-values c = search needs

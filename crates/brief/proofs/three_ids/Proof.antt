@@ -1,8 +1,8 @@
 use mathlib.Core.Path.{refl, sym, _∙_}
+use mathlib.Core.Bool.{false≢true}
 use native.Mathlib.Omega.{arith}
 use Rattle.messages.specs.Messages.{row, entry, is-served}
 use Rattle.messages.specs.Columns.{tailAt, packedAt, packed}
-use Rattle.reader.proofs.HeldLaws.{unlike}
 use Rattle.brief.specs.Shortly.{few-ids}
 use Rattle.brief.proofs.ShortLaws.{none-left, id-before, shortly}
 use borrow.Author.Needs.{needs}
@@ -16,7 +16,7 @@ not-short-requires : tie.Need-not-short-requires
 not-short-requires c κs = search needs
 
 returns : tie.Need-returns
-returns c k = absurd (unlike (sym (c .not-short .ensures) ∙ k))
+returns c k = absurd (false≢true (sym (c .not-short .ensures) ∙ k))
 
 id-at-requires : tie.Need-id-at-requires
 id-at-requires c κs = search needs

@@ -1,8 +1,8 @@
 use mathlib.Core.Path.{refl, sym, _∙_}
+use mathlib.Core.Bool.{false≢true}
 use native.Mathlib.Omega.{arith}
 use Prim.Native.Nat.{_≤_}
 use lib.ListN.{getD}
-use Rattle.reader.proofs.HeldLaws.{unlike}
 use Rattle.brief.proofs.ShortLaws.{none-left, id-before, shortly}
 use borrow.Author.Needs.{needs}
 use Rattle.brief.proofs.two_ids.Statement.{statement}
@@ -12,7 +12,7 @@ not-short-requires : tie.Need-not-short-requires
 not-short-requires c κs = search needs
 
 returns : tie.Need-returns
-returns c k = absurd (unlike (sym (c .not-short .ensures) ∙ k))
+returns c k = absurd (false≢true (sym (c .not-short .ensures) ∙ k))
 
 shared-slice-read-o : tie.Need-shared-slice-read-o
 shared-slice-read-o c = search needs

@@ -1,7 +1,8 @@
 -- What is found short is put as it is, and that is what the table gives.
 use mathlib.Core.Path.{refl, sym}
+use mathlib.Core.Bool.{false≢true}
 use borrow.Author.Needs.{needs}
-use Rattle.terse.proofs.TerseLaws.{short-encodes, unlike}
+use Rattle.terse.proofs.TerseLaws.{short-encodes}
 use Rattle.terse.proofs.encode_short.Statement.{statement}
 use Rattle.terse.proofs.encode_short.Tie as tie
 
@@ -17,10 +18,10 @@ same-length c = search needs
 returns : tie.Need-returns
 returns c =
     let short = c .before .before .before .before .before .is-short .ensures (c .before .before .before .before .if1 .taken) in
-    (λ _. short-encodes short _ _ (short .has-room) (c .before .before .put-confirm .ensures), λ e. absurd (unlike (sym e)))
+    (λ _. short-encodes short _ _ (short .has-room) (c .before .before .put-confirm .ensures), λ e. absurd (false≢true (sym e)))
 
 returns-2 : tie.Need-returns-2
-returns-2 c = (λ e. absurd (unlike e), λ _. refl)
+returns-2 c = (λ e. absurd (false≢true e), λ _. refl)
 
 pub encode-short-spec : {M : Type 1} → statement M
 encode-short-spec =

@@ -1,6 +1,6 @@
 use mathlib.Core.Logic.{⊎-elim}
+use mathlib.Core.Bool.{false≢true}
 use Rattle.compose.specs.declared.Confirm.the-variants.{Grab, Inhibit, Give, Release}
-use Rattle.terse.proofs.TerseLaws.{unlike}
 use Rattle.terse.proofs.is_confirm.Statement.{statement}
 use Rattle.terse.proofs.is_confirm.Tie as tie
 
@@ -11,7 +11,7 @@ returns c k =
     (c .match .keys1)
 
 returns-2 : tie.Need-returns-2
-returns-2 c k = absurd (unlike k)
+returns-2 c k = absurd (false≢true k)
 
 pub is-confirm-spec : {M : Type 1} → statement M
 is-confirm-spec = tie.close (tie.spec returns returns-2)

@@ -1,19 +1,19 @@
-use Rattle.terse.proofs.TerseLaws.{unlike}
+use mathlib.Core.Bool.{false≢true}
 use borrow.Author.Needs.{needs}
 use Rattle.terse.proofs.is_short.Statement.{statement}
 use Rattle.terse.proofs.is_short.Tie as tie
 
 returns : tie.Need-returns
-returns c k = absurd (unlike k)
+returns c k = absurd (false≢true k)
 
 returns-2 : tie.Need-returns-2
-returns-2 c k = absurd (unlike k)
+returns-2 c k = absurd (false≢true k)
 
 returns-3 : tie.Need-returns-3
-returns-3 c k = absurd (unlike k)
+returns-3 c k = absurd (false≢true k)
 
 returns-4 : tie.Need-returns-4
-returns-4 c k = absurd (unlike k)
+returns-4 c k = absurd (false≢true k)
 
 is-confirm-requires : tie.Need-is-confirm-requires
 is-confirm-requires c κs = search needs
@@ -45,7 +45,7 @@ returns-5 c k =
     }
 
 returns-6 : tie.Need-returns-6
-returns-6 c k = absurd (unlike k)
+returns-6 c k = absurd (false≢true k)
 
 pub is-short-spec : {M : Type 1} → statement M
 is-short-spec =

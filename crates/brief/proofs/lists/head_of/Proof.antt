@@ -1,9 +1,9 @@
 use mathlib.Core.Path.{refl, sym, _∙_}
+use mathlib.Core.Bool.{false≢true}
 use mathlib.Core.List.{[]}
 use native.Mathlib.Omega.{arith}
 use Rattle.messages.specs.Messages.{row, entry, is-served}
 use Rattle.messages.specs.Columns.{countAt, tailAt, packedAt, packed}
-use Rattle.reader.proofs.HeldLaws.{unlike}
 use Rattle.brief.proofs.ShortLaws.{then-more}
 use Rattle.brief.proofs.ListLaws.{heads}
 use borrow.Author.Needs.{needs}
@@ -14,7 +14,7 @@ no-head-requires : tie.Need-no-head-requires
 no-head-requires c κs = search needs
 
 returns : tie.Need-returns
-returns c k = absurd (unlike (sym (c .no-head .ensures) ∙ k))
+returns c k = absurd (false≢true (sym (c .no-head .ensures) ∙ k))
 
 shared-slice-read-o : tie.Need-shared-slice-read-o
 shared-slice-read-o c = search needs

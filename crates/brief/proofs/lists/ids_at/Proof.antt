@@ -1,8 +1,8 @@
 use Prim.Native.Nat.{_-_, _≤_}
 use mathlib.Core.Path.{_≡_}
+use mathlib.Core.Bool.{false≢true}
 use lib.ListN.{length, length-set}
 use Rattle.messages.specs.Limits.{list-limit}
-use Rattle.reader.proofs.HeldLaws.{unlike}
 use Rattle.brief.specs.Listed.{Stored}
 use Rattle.brief.proofs.ListLaws.{stored-none, stored-more, stored-all}
 use borrow.Author.Needs.{needs}
@@ -28,7 +28,7 @@ id-at-requires : tie.Need-id-at-requires Inv-loop μ-loop
 id-at-requires c κs = search needs
 
 returns : tie.Need-returns Inv-loop μ-loop
-returns c k = absurd (unlike k)
+returns c k = absurd (false≢true k)
 
 cast-listed : tie.Need-cast-listed Inv-loop μ-loop
 cast-listed c = search needs

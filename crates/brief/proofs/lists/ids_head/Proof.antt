@@ -1,9 +1,9 @@
 use mathlib.Core.Path.{refl, sym, ap, _∙_}
+use mathlib.Core.Bool.{false≢true}
 use mathlib.Core.Logic.{⊎-elim}
 use native.Mathlib.Omega.{arith}
 use Rattle.messages.specs.Messages.{row, entry, is-served}
 use Rattle.messages.specs.Columns.{countAt, tailAt, packedAt, packed}
-use Rattle.reader.proofs.HeldLaws.{unlike}
 use Rattle.brief.proofs.ShortLaws.{then-more, id-before}
 use Rattle.brief.proofs.ListLaws.{begins, heads}
 use borrow.Author.Needs.{needs}
@@ -14,7 +14,7 @@ no-head-requires : tie.Need-no-head-requires
 no-head-requires c κs = search needs
 
 returns : tie.Need-returns
-returns c k = absurd (unlike (sym (c .no-head .ensures) ∙ k))
+returns c k = absurd (false≢true (sym (c .no-head .ensures) ∙ k))
 
 shared-slice-read-o : tie.Need-shared-slice-read-o
 shared-slice-read-o c = search needs
@@ -23,7 +23,7 @@ no-head-requires-2 : tie.Need-no-head-requires-2
 no-head-requires-2 c κs = search needs
 
 returns-2 : tie.Need-returns-2
-returns-2 c k = absurd (unlike (sym (c .no-head2 .ensures) ∙ k))
+returns-2 c k = absurd (false≢true (sym (c .no-head2 .ensures) ∙ k))
 
 id-at-requires : tie.Need-id-at-requires
 id-at-requires c κs = search needs
@@ -32,7 +32,7 @@ no-head-requires-3 : tie.Need-no-head-requires-3
 no-head-requires-3 c κs = search needs
 
 returns-3 : tie.Need-returns-3
-returns-3 c k = absurd (unlike (sym (c .no-head3 .ensures) ∙ k))
+returns-3 c k = absurd (false≢true (sym (c .no-head3 .ensures) ∙ k))
 
 id-at-requires-2 : tie.Need-id-at-requires-2
 id-at-requires-2 c κs = search needs
@@ -41,7 +41,7 @@ no-head-requires-4 : tie.Need-no-head-requires-4
 no-head-requires-4 c κs = search needs
 
 returns-4 : tie.Need-returns-4
-returns-4 c k = absurd (unlike (sym (c .no-head4 .ensures) ∙ k))
+returns-4 c k = absurd (false≢true (sym (c .no-head4 .ensures) ∙ k))
 
 wide-requires : tie.Need-wide-requires
 wide-requires c κs = search needs

@@ -1,7 +1,7 @@
 use mathlib.Core.Path.{sym, _∙_}
+use mathlib.Core.Bool.{false≢true}
 use native.Mathlib.Omega.{arith}
 use borrow.Author.Tests.{not-false}
-use Rattle.reader.proofs.HeldLaws.{unlike}
 use borrow.Author.Needs.{needs}
 use Rattle.brief.proofs.lists.read_listing.Statement.{statement}
 use Rattle.brief.proofs.lists.read_listing.Tie as tie
@@ -13,7 +13,7 @@ no-listing-requires : tie.Need-no-listing-requires
 no-listing-requires c κs = search needs
 
 returns : tie.Need-returns
-returns c k = absurd (unlike (sym (c .no-listing .ensures) ∙ k))
+returns c k = absurd (false≢true (sym (c .no-listing .ensures) ∙ k))
 
 counted-requires : tie.Need-counted-requires
 counted-requires c κs = c .before .before .head-of .ensures (not-false _ (c .if1 .left)) .near
@@ -22,7 +22,7 @@ no-listing-requires-2 : tie.Need-no-listing-requires-2
 no-listing-requires-2 c κs = search needs
 
 returns-2 : tie.Need-returns-2
-returns-2 c k = absurd (unlike (sym (c .no-listing2 .ensures) ∙ k))
+returns-2 c k = absurd (false≢true (sym (c .no-listing2 .ensures) ∙ k))
 
 add-ids-at : tie.Need-add-ids-at
 add-ids-at c =
@@ -45,7 +45,7 @@ no-listing-requires-3 : tie.Need-no-listing-requires-3
 no-listing-requires-3 c κs = search needs
 
 returns-4 : tie.Need-returns-4
-returns-4 c k = absurd (unlike (sym (c .no-listing3 .ensures) ∙ k))
+returns-4 c k = absurd (false≢true (sym (c .no-listing3 .ensures) ∙ k))
 
 pub read-listing-spec : {M : Type 1} → statement M
 read-listing-spec =

@@ -1,9 +1,9 @@
 use mathlib.Core.Path.{refl, sym, ap, _∙_}
+use mathlib.Core.Bool.{false≢true}
 use native.Mathlib.Omega.{arith}
 use Prim.Native.Nat.{_/_}
 use Rattle.messages.specs.Messages.{row, entry, is-served}
 use Rattle.messages.specs.Columns.{countAt, tailAt, packedAt, packed}
-use Rattle.reader.proofs.HeldLaws.{unlike}
 use Rattle.brief.proofs.ShortLaws.{then-more, reason-before}
 use Rattle.brief.proofs.ListLaws.{heads}
 use borrow.Author.Needs.{needs}
@@ -26,7 +26,7 @@ no-head-requires : tie.Need-no-head-requires
 no-head-requires c κs = search needs
 
 returns : tie.Need-returns
-returns c k = absurd (unlike (sym (c .no-head .ensures) ∙ k))
+returns c k = absurd (false≢true (sym (c .no-head .ensures) ∙ k))
 
 mul-reason : tie.Need-mul-reason
 mul-reason c = search needs
@@ -38,7 +38,7 @@ no-head-requires-2 : tie.Need-no-head-requires-2
 no-head-requires-2 c κs = search needs
 
 returns-2 : tie.Need-returns-2
-returns-2 c k = absurd (unlike (sym (c .no-head2 .ensures) ∙ k))
+returns-2 c k = absurd (false≢true (sym (c .no-head2 .ensures) ∙ k))
 
 cast-t12 : tie.Need-cast-t12
 cast-t12 c = search needs
