@@ -14,12 +14,12 @@ use domain::numbers::Reply;
 pub fn lists(number: u32) -> bool
     ensures { λ r. ⌜ r ≡ listsOf number ⌝ }
 {
-    if number < 10 {
-        return true;
+    if 28 < number {
+        return false;
     }
     match number {
-        12 | 16 | 21 | 23 => true,
-        _ => false,
+        10 | 14 | 17 | 19 => false,
+        _ => true,
     }
 }
 

@@ -126,7 +126,7 @@ ItsIds m ids = hasIds (tailAt (m .number)) ≡ true → ids ≡ m .items
 
 request-act : (new : ℕ) (d : Domain) (p : ℕ) (ids : List ℕ) (m : Message) → ItsIds (fields m) ids → formed m ≡ true → is-served (fields m .number) ≡ true
     → act new d p (request-of m ids) ≡ act new d p m
-unfolding request-of ItsIds value-of request lists listed-request brief-request token-request pass-request fields is-served entry tailAt packedAt packed act
+unfolding request-of ItsIds value-of request lists few-ids listed-request brief-request token-request pass-request fields is-served entry tailAt packedAt packed act
 request-act new d p ids (EDrq h i) l f s = refl
 request-act new d p ids (DPum n) l f s = refl
 request-act new d p ids (RJum n os) l f s = refl
@@ -311,23 +311,8 @@ brief-asks os u listed e h l new d p room = e new d p room ∙ rw (h, l) refl
 
 -- ---- a message of a few ids, which has no list
 few-unlisted : (n : ℕ) → few-ids n ≡ true → lists n ≡ false
-unfolding few-ids lists
-few-unlisted n h = go (ltb 28 n) (eqb n 10) (eqb n 14) (eqb n 17) (eqb n 19) refl refl refl refl refl h
-  where
-    at : (k : ℕ) → lists k ≡ false → eqb n k ≡ true → lists n ≡ false
-    at k z e = subst (λ (m : ℕ). lists m ≡ false) (sym (eqb-true n k e)) z
-
-    above : 28 < n → lists n ≡ false
-    above l =
-        rw (le-ltb n 10 (omega arith), ne-eqb n 12 (λ e. omega arith), ne-eqb n 16 (λ e. omega arith), ne-eqb n 21 (λ e. omega arith), ne-eqb n 23 (λ e. omega arith)) refl
-
-    go : (t a b c d : Bool) → ltb 28 n ≡ t → eqb n 10 ≡ a → eqb n 14 ≡ b → eqb n 17 ≡ c → eqb n 19 ≡ d → t || a || b || c || d ≡ true → lists n ≡ false
-    go true a b c d e f g i j h = above (ltb-true 28 n e)
-    go false true b c d e f g i j h = at 10 refl f
-    go false false true c d e f g i j h = at 14 refl g
-    go false false false true d e f g i j h = at 17 refl i
-    go false false false false true e f g i j h = at 19 refl j
-    go false false false false false e f g i j h = absurd (false≢true h)
+unfolding lists
+few-unlisted n h = rw h refl
 
 -- read the short way, it asks for what it is understood to
 module _ (os : List ℕ) (y : Bytes os) (q : Short) (h : Shortly os q) (a : q .first < 65536) (b : q .second < 65536) (c : q .third < 65536) where

@@ -1,10 +1,11 @@
 -- The message that a served number names, with its first three values and its list, as the code holds them: what it asks for is what the message
 -- read asks for.
 use Prim.Native.Nat.{ℕ, _%_}
-use mathlib.Core.Bool.{Bool, _||_}
+use mathlib.Core.Bool.{Bool, not}
 use mathlib.Core.List.{List}
 use lib.Dec.{eqb, ltb}
 use Rattle.places.specs.Sets.{if_then_else_}
+use Rattle.brief.specs.Shortly.{few-ids}
 use Rattle.messages.specs.Named.{Message, EDrq, DPum, AUrq, DUrq, CJrq, CLrq, CCrq, CDrq, CArq, CErq, TGrq, TIrq, TVrq, TVrs, TPrq, TRrq, TTrq}
 
 unfoldable pub pass-request : (number a b c : ℕ) → Message
@@ -40,8 +41,9 @@ listed-request number a b ids =
     else if eqb number 23 then CErq a b ids
     else DPum a
 
+-- which these are of the served messages: all but those of a few ids
 unfoldable pub lists : ℕ → Bool
-lists number = ltb number 10 || eqb number 12 || eqb number 16 || eqb number 21 || eqb number 23
+lists number = not (few-ids number)
 
 unfoldable pub request : (number a b c : ℕ) (ids : List ℕ) → Message
 request number a b c ids = if lists number then listed-request number a b ids else brief-request number a b c
