@@ -36,13 +36,10 @@ fn print(text: &[u8], n: usize) -> bool {
     io::write_all(STDOUT_FILENO, &text[0..n])
 }
 
-// Writes the line of the frame of n octets at the start of the room.
-fn show(room: &[u8], n: usize) -> bool {
-    if room.len() < n {
-        return false;
-    }
+// Writes the line of a frame.
+fn show(frame: &[u8]) -> bool {
     let mut text = io::buffer();
-    let end = answer(&room[0..n], &mut text);
+    let end = answer(frame, &mut text);
     let next = line::put(&mut text, end, b'\n');
     print(&text, next)
 }
@@ -56,7 +53,7 @@ fn run_frame(room: &mut [u8], n: usize) -> bool {
     if got < n {
         return false;
     }
-    show(room, n)
+    show(&room[0..n])
 }
 
 // One frame: two octets of length, and that many more. False where the input ends.

@@ -49,35 +49,34 @@ fn put_message(
     line::put_mark(text, end, is_same)
 }
 
-// So many, or none where there are fewer.
-fn upto(n: usize, most: usize) -> usize
+// So many where a message has them, or none where there are fewer.
+fn upto(is_there: bool, n: usize, most: usize) -> usize
     ensures { λ r. ⌜ r ≤ most ⌝ }
 {
-    if n <= most { n } else { 0 }
+    if is_there {
+        if n <= most {
+            return n;
+        }
+    }
+    0
 }
 
 // The values of a message.
 fn values_of<'a>(d: Decoded, values: &'a [u32]) -> &'a [u32] {
-    let n = upto(d.have, values.len());
+    let n = upto(true, d.have, values.len());
     &values[0..n]
 }
 
 // The ids of a message; none where it has a string.
 fn ids_of<'a>(d: Decoded, ids: &'a [u16]) -> &'a [u16] {
-    if d.octets {
-        return &ids[0..0];
-    }
-    let n = upto(d.count, ids.len());
+    let n = upto(!d.octets, d.count, ids.len());
     &ids[0..n]
 }
 
 // The string of a message, which lies in the octets read; none where it has ids.
 fn string_of<'a>(d: Decoded, message: &'a [u8]) -> &'a [u8] {
-    if !d.octets {
-        return &message[0..0];
-    }
-    let start = upto(d.start, message.len());
-    let n = upto(d.count, message.len() - start);
+    let start = upto(d.octets, d.start, message.len());
+    let n = upto(d.octets, d.count, message.len() - start);
     let end = start + n;
     &message[start..end]
 }
