@@ -44,6 +44,11 @@ pub whole-sends : (rs : List Sent) (os out : List ℕ) → os ≡ records rs →
 unfolding whole sends
 whole-sends rs os out e = rw e refl
 
+-- the octets of a message went to p, so the message did
+pub confirmed : (s : Message) (p : ℕ) (out : List ℕ) {m : List ℕ} {n k : ℕ} {o : List ℕ} → m ≡ wire s → length m ≤ 1024
+    → settled {A = Unit {0}} n k tt o ≡ whole (guarded 0 m (framed m p)) out → Told p s n k out o
+confirmed s p out {m} e l h = h ∙ whole-sends _ _ _ (one-sent m s e l p)
+
 -- what was sent says what the tables are: as before where there was no room, else as after
 module _ {A : Type 0} (a b : A) (n k : ℕ) (rs : List Sent) (out o : List ℕ) (e : settled {A = Unit {0}} n k tt o ≡ sends 0 tt tt rs out) where
   sent : settled n k (if eqb n 9 then a else b) o ≡ sends 0 a b rs out

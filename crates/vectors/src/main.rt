@@ -15,18 +15,17 @@ const WRITE: u8 = 1;
 
 // The line of a frame: a kind, and its body. A frame that is neither kind gives a question mark.
 fn answer(frame: &[u8], text: &mut [u8]) -> usize {
-    if frame.len() == 0 {
-        return line::put(text, 0, b'?');
+    if frame.len() > 0 {
+        let kind = frame[0];
+        let body = &frame[1..];
+        if kind == READ {
+            return reading::answer(body, text);
+        }
+        if kind == WRITE {
+            return writing::answer(body, text);
+        }
     }
-    let kind = frame[0];
-    let body = &frame[1..];
-    if kind == READ {
-        reading::answer(body, text)
-    } else if kind == WRITE {
-        writing::answer(body, text)
-    } else {
-        line::put(text, 0, b'?')
-    }
+    line::put(text, 0, b'?')
 }
 
 // Writes the first n octets of a line; false where it cannot.
@@ -34,16 +33,13 @@ fn print(text: &[u8], n: usize) -> bool {
     if text.len() < n {
         return false;
     }
-    io::write_all(STDOUT_FILENO, &text[..n])
+    io::write_all(STDOUT_FILENO, &text[0..n])
 }
 
-// Writes the line of the frame of n octets at the start of the room.
-fn show(room: &[u8], n: usize) -> bool {
-    if room.len() < n {
-        return false;
-    }
+// Writes the line of a frame.
+fn show(frame: &[u8]) -> bool {
     let mut text = io::buffer();
-    let end = answer(&room[..n], &mut text);
+    let end = answer(frame, &mut text);
     let next = line::put(&mut text, end, b'\n');
     print(&text, next)
 }
@@ -53,11 +49,11 @@ fn run_frame(room: &mut [u8], n: usize) -> bool {
     if room.len() < n {
         return false;
     }
-    let got = io::read_full(STDIN_FILENO, &mut room[..n]);
+    let got = io::read_full(STDIN_FILENO, &mut room[0..n]);
     if got < n {
         return false;
     }
-    show(room, n)
+    show(&room[0..n])
 }
 
 // One frame: two octets of length, and that many more. False where the input ends.

@@ -1,8 +1,11 @@
 // A message that is read: its number, values and items, and whether it is written again as it was.
+ghost use Prim.Native.Nat.{_≤_};
 use crate::line;
 use crate::room;
 use reader::Decoded;
 use sizes::Wrote;
+use streams::lines::say;
+use streams::lines::say_number;
 
 // Whether the message is written as these octets, with those behind them left as they were.
 fn is_written_again(
@@ -15,12 +18,7 @@ fn is_written_again(
     let mut out = room::fresh();
     let wrote = writer::encode(number, values, ids, octets, &mut out);
     match wrote {
-        Wrote::Upto(n) => {
-            if n != message.len() {
-                return false;
-            }
-            room::is_start(&out, message) && room::is_untouched(&out, n)
-        }
+        Wrote::Upto(n) => n == message.len() && room::holds(&out, message),
         Wrote::Not(_) => false,
     }
 }
@@ -28,11 +26,11 @@ fn is_written_again(
 // The items behind the values: ` : id ..` where they are ids or none, ` # octets` in hexadecimal where they are a string.
 fn put_items(text: &mut [u8], at: usize, is_string: bool, ids: &[u16], octets: &[u8]) -> usize {
     if is_string {
-        let next = line::put_all(text, at, b" # ");
+        let next = say(text, at, b" # ");
         return line::put_octets(text, next, octets);
     }
-    let next = line::put_all(text, at, b" :");
-    line::put_ids(text, next, ids)
+    let next = say(text, at, b" :");
+    line::put_numbers(text, next, &[], ids, ids.len())
 }
 
 // `number value ..`, the items, and the mark: that the message is written again as it was.
@@ -45,46 +43,42 @@ fn put_message(
     message: &[u8],
 ) -> usize {
     let is_same = is_written_again(d.number, values, ids, octets, message);
-    let head = line::put_number(text, 0, d.number);
-    let next = line::put_values(text, head, values);
+    let head = say_number(text, 0, d.number as u64);
+    let next = line::put_numbers(text, head, values, &[], values.len());
     let end = put_items(text, next, d.octets, ids, octets);
     line::put_mark(text, end, is_same)
 }
 
-// A message with a string, which lies in the octets read. Counts that lie outside give a question mark, here and below.
-fn put_string(text: &mut [u8], d: Decoded, values: &[u32], message: &[u8]) -> usize {
-    let start = d.start;
-    let count = d.count;
-    if message.len() < start {
-        return line::put(text, 0, b'?');
+// So many where a message has them, or none where there are fewer.
+fn upto(is_there: bool, n: usize, most: usize) -> usize
+    ensures { λ r. ⌜ r ≤ most ⌝ }
+{
+    if is_there {
+        if n <= most {
+            return n;
+        }
     }
-    if message.len() - start < count {
-        return line::put(text, 0, b'?');
-    }
-    let end = start + count;
-    put_message(text, d, values, &[], &message[start..end], message)
+    0
 }
 
-// A message with ids, or with no items.
-fn put_list(text: &mut [u8], d: Decoded, values: &[u32], ids: &[u16], message: &[u8]) -> usize {
-    let count = d.count;
-    if ids.len() < count {
-        return line::put(text, 0, b'?');
-    }
-    put_message(text, d, values, &ids[..count], &[], message)
+// The values of a message.
+fn values_of<'a>(d: Decoded, values: &'a [u32]) -> &'a [u32] {
+    let n = upto(true, d.have, values.len());
+    &values[0..n]
 }
 
-// A message that was read, of which values and ids are whole arrays.
-fn put_parts(text: &mut [u8], d: Decoded, values: &[u32], ids: &[u16], message: &[u8]) -> usize {
-    let have = d.have;
-    if values.len() < have {
-        return line::put(text, 0, b'?');
-    }
-    if d.octets {
-        put_string(text, d, &values[..have], message)
-    } else {
-        put_list(text, d, &values[..have], ids, message)
-    }
+// The ids of a message; none where it has a string.
+fn ids_of<'a>(d: Decoded, ids: &'a [u16]) -> &'a [u16] {
+    let n = upto(!d.octets, d.count, ids.len());
+    &ids[0..n]
+}
+
+// The string of a message, which lies in the octets read; none where it has ids.
+fn string_of<'a>(d: Decoded, message: &'a [u8]) -> &'a [u8] {
+    let start = upto(d.octets, d.start, message.len());
+    let n = upto(d.octets, d.count, message.len() - start);
+    let end = start + n;
+    &message[start..end]
 }
 
 // The line of octets to be read.
@@ -93,7 +87,14 @@ pub fn answer(message: &[u8], text: &mut [u8]) -> usize {
     if d.ok {
         let values = d.values;
         let ids = d.ids;
-        put_parts(text, d, &values, &ids, message)
+        put_message(
+            text,
+            d,
+            values_of(d, &values),
+            ids_of(d, &ids),
+            string_of(d, message),
+            message,
+        )
     } else {
         line::put_refusal(text, d.refusal)
     }

@@ -11,26 +11,17 @@ pub fn fresh() -> [u8; 1100]
     [PATTERN; 1100]
 }
 
-// Whether the room holds the pattern from an index on.
-pub fn is_untouched(room: &[u8], from: usize) -> bool {
-    let mut is_same = true;
-    let mut i = from;
-    while i < room.len() {
-        is_same = is_same && room[i] == PATTERN;
-        i += 1;
-    }
-    is_same
+// What is to stand at an index: an octet of these, or the pattern behind them.
+fn expected(octets: &[u8], i: usize) -> u8 {
+    if i < octets.len() { octets[i] } else { PATTERN }
 }
 
-// Whether the room starts with these octets.
-pub fn is_start(room: &[u8], octets: &[u8]) -> bool {
-    if room.len() < octets.len() {
-        return false;
-    }
-    let mut is_same = true;
+// Whether the room holds these octets, and the pattern behind them.
+pub fn holds(room: &[u8], octets: &[u8]) -> bool {
+    let mut is_same = octets.len() <= room.len();
     let mut i = 0;
-    while i < octets.len() {
-        is_same = is_same && room[i] == octets[i];
+    while i < room.len() {
+        is_same = is_same && room[i] == expected(octets, i);
         i += 1;
     }
     is_same

@@ -1,4 +1,5 @@
 // A message that is given to the writer: the octets that it makes of it, and whether it left the others.
+ghost use Prim.Native.Nat.{_≤_};
 use crate::line;
 use crate::numbers;
 use crate::room;
@@ -9,14 +10,15 @@ fn put_octets(text: &mut [u8], out: &[u8], n: usize) -> usize {
     if out.len() < n {
         return line::put(text, 0, b'?');
     }
-    let end = line::put_octets(text, 0, &out[..n]);
-    line::put_mark(text, end, room::is_untouched(out, n))
+    let octets = &out[0..n];
+    let end = line::put_octets(text, 0, octets);
+    line::put_mark(text, end, room::holds(out, octets))
 }
 
 // The line of a refusal, and the mark, that all octets stayed.
 fn put_refused(text: &mut [u8], out: &[u8], refusal: u8) -> usize {
     let end = line::put_refusal(text, refusal);
-    line::put_mark(text, end, room::is_untouched(out, 0))
+    line::put_mark(text, end, room::holds(out, &[]))
 }
 
 // The line of what the writer did to a room.
@@ -27,61 +29,56 @@ fn put_outcome(text: &mut [u8], wrote: Wrote, out: &[u8]) -> usize {
     }
 }
 
-// A message, written into the first `size` octets of a larger room.
+// The message of a frame with these parts, written into as much of a room as the frame says.
 fn put_written(
     text: &mut [u8],
-    number: u32,
+    body: &[u8],
     values: &[u32],
     ids: &[u16],
     octets: &[u8],
-    size: usize,
     out: &mut [u8],
 ) -> usize {
+    let size = numbers::pair(body, 1) as usize;
     if out.len() < size {
         return line::put(text, 0, b'?');
     }
-    let wrote = writer::encode(number, values, ids, octets, &mut out[..size]);
+    let number = numbers::octet(body, 0);
+    let wrote = writer::encode(number, values, ids, octets, &mut out[0..size]);
     put_outcome(text, wrote, out)
 }
 
-// The message of a frame whose values and ids are taken; its octets start at `rest`.
-fn put_taken(text: &mut [u8], body: &[u8], values: &[u32], ids: &[u16], rest: usize) -> usize {
+// The message of a frame with so many values and ids, and octets to the end; a question mark where the frame is too short.
+fn put_given(text: &mut [u8], body: &[u8], many: usize, count: usize) -> usize
+    requires { ⌜ (many ≤ 8) × (count ≤ 128) ⌝ }
+{
+    let list = 5 + 4 * many;
+    let rest = list + 2 * count;
     if body.len() < rest {
         return line::put(text, 0, b'?');
     }
+    let values = numbers::values_of(body);
+    let ids = numbers::ids_of(&body[list..]);
     let mut out = room::fresh();
-    let number = numbers::octet(body, 0);
-    let size = numbers::pair(body, 1) as usize;
-    put_written(text, number, values, ids, &body[rest..], size, &mut out)
-}
-
-// The message of a frame: as many values as there is place for behind its first five octets, then the ids, and octets to the end.
-fn put_given(text: &mut [u8], body: &[u8], values: &mut [u32], ids: &mut [u16]) -> usize {
-    let list = 5 + 4 * values.len();
-    if body.len() < list {
-        return line::put(text, 0, b'?');
-    }
-    numbers::take_values(&body[5..], values);
-    numbers::take_ids(&body[list..], ids);
-    put_taken(text, body, values, ids, list + 2 * ids.len())
-}
-
-// The same, as many values and ids as the frame says; a question mark where that is more than there is place for.
-fn put_counted(text: &mut [u8], body: &[u8], values: &mut [u32], ids: &mut [u16]) -> usize {
-    let many = numbers::octet(body, 3) as usize;
-    let count = numbers::octet(body, 4) as usize;
-    if values.len() < many {
-        return line::put(text, 0, b'?');
-    }
-    if ids.len() < count {
-        return line::put(text, 0, b'?');
-    }
-    put_given(text, body, &mut values[..many], &mut ids[..count])
+    put_written(
+        text,
+        body,
+        &values[0..many],
+        &ids[0..count],
+        &body[rest..],
+        &mut out,
+    )
 }
 
 // The line of a message to be written: number, two octets of room, how many values, how many ids; then these, and octets to the end.
+// A question mark where values or ids are more than there is place for.
 pub fn answer(body: &[u8], text: &mut [u8]) -> usize {
-    let mut values = [0u32; 8];
-    let mut ids = [0u16; 128];
-    put_counted(text, body, &mut values, &mut ids)
+    let many = numbers::octet(body, 3) as usize;
+    let count = numbers::octet(body, 4) as usize;
+    if many > 8 {
+        return line::put(text, 0, b'?');
+    }
+    if count > 128 {
+        return line::put(text, 0, b'?');
+    }
+    put_given(text, body, many, count)
 }

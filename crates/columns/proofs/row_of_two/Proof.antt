@@ -6,24 +6,6 @@ use Rattle.places.proofs.Busy.{row-two}
 use Rattle.columns.proofs.row_of_two.Statement.{statement}
 use Rattle.columns.proofs.row_of_two.Tie as tie
 
-mul-result : tie.Need-mul-result
-mul-result c = search needs
-
-shared-slice-read-result : tie.Need-shared-slice-read-result
-shared-slice-read-result c = search needs
-
-add-result : tie.Need-add-result
-add-result c = search needs
-
-mul-result-2 : tie.Need-mul-result-2
-mul-result-2 c = search needs
-
-shared-slice-read-result-2 : tie.Need-shared-slice-read-result-2
-shared-slice-read-result-2 c = search needs
-
-add-result-2 : tie.Need-add-result-2
-add-result-2 c = search needs
-
 returns : tie.Need-returns
 returns c z =
     let a = c .before .before .args in
@@ -31,13 +13,4 @@ returns c z =
     row-two (a .ids .now) (a .i) (a .x) (a .step) (eqb-true _ _ (both .0)) (eqb-true _ _ (both .1))
 
 pub row-of-two-spec : {M : Type 1} → statement M
-row-of-two-spec =
-    tie.close
-    (tie.spec
-    mul-result
-    shared-slice-read-result
-    add-result
-    mul-result-2
-    shared-slice-read-result-2
-    add-result-2
-    returns)
+row-of-two-spec = tie.close (tie.spec (λ c. search needs) (λ c. search needs) (λ c. search needs) (λ c. search needs) (λ c. search needs) (λ c. search needs) returns)

@@ -1,34 +1,10 @@
-use mathlib.Core.Path.{_∙_}
-use Rattle.answers.proofs.Sending.{one-sent, whole-sends}
+use Rattle.answers.proofs.Sending.{confirmed}
 use borrow.Author.Needs.{needs}
 use Rattle.answers.proofs.confirms.deny_user.Statement.{statement}
 use Rattle.answers.proofs.confirms.deny_user.Tie as tie
 
-result-number-requires : tie.Need-result-number-requires
-result-number-requires c κs = tt
-
-attach-refusal-requires : tie.Need-attach-refusal-requires
-attach-refusal-requires c κs = tt
-
-slice-aggregate-confirm : tie.Need-slice-aggregate-confirm
-slice-aggregate-confirm c = search needs
-
-confirm-requires : tie.Need-confirm-requires
-confirm-requires c κs = tt
-
-same-length : tie.Need-same-length
-same-length c = search needs
-
 returns : tie.Need-returns
-returns c = c .before .before .confirm .ensures ∙ whole-sends _ _ _ (one-sent _ _ (rw (c .before .before .before .before .before .before .result-number .ensures) at (c .before .before .before .before .before .attach-refusal .ensures)) (search needs) _)
+returns c = confirmed _ _ _ (rw (c .before .before .before .before .before .before .result-number .ensures) at (c .before .before .before .before .before .attach-refusal .ensures)) (search needs) (c .before .before .confirm .ensures)
 
 pub deny-user-spec : {M : Type 1} → statement M
-deny-user-spec =
-    tie.close
-    (tie.spec
-    result-number-requires
-    attach-refusal-requires
-    slice-aggregate-confirm
-    confirm-requires
-    same-length
-    returns)
+deny-user-spec = tie.close (tie.spec (λ c κs. tt) (λ c κs. tt) (λ c. search needs) (λ c κs. tt) (λ c. search needs) returns)

@@ -1,13 +1,13 @@
 -- `vectors::line::put_octets` is safe and ends. The measure falls by one with each turn. Assumes nothing.
 use borrow.Author.Needs.{needs}
 use mathlib.Core.Path.{_≡_}
-use Prim.Native.Nat.{_≤_, _-_}
+use Prim.Native.Nat.{_-_}
 use lib.ListN.{length}
 use Rattle.vectors.proofs.line.put_octets.Statement.{statement}
 use Rattle.vectors.proofs.line.put_octets.Tie as tie
 
 abbrev Inv-loop : tie.InvT-loop
-Inv-loop text₀ at octets next₀ i₀ text next i = (i ≤ length octets) × (length text ≡ length text₀)
+Inv-loop text₀ at octets next₀ i₀ text next i = length text ≡ length text₀
 
 abbrev μ-loop : tie.MeasureT-loop
 μ-loop text₀ at octets next₀ i₀ text next i = length octets - i

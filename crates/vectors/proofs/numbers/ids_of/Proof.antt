@@ -1,16 +1,16 @@
--- `vectors::numbers::take_ids` is safe and ends. The measure falls by one with each turn. Assumes nothing.
+-- `vectors::numbers::ids_of` is safe and ends. The measure falls by one with each turn. Assumes nothing.
 use borrow.Author.Needs.{needs}
 use mathlib.Core.Path.{_≡_}
-use Prim.Native.Nat.{_≤_, _-_}
+use Prim.Native.Nat.{_-_}
 use lib.ListN.{length}
-use Rattle.vectors.proofs.numbers.take_ids.Statement.{statement}
-use Rattle.vectors.proofs.numbers.take_ids.Tie as tie
+use Rattle.vectors.proofs.numbers.ids_of.Statement.{statement}
+use Rattle.vectors.proofs.numbers.ids_of.Tie as tie
 
 abbrev Inv-loop : tie.InvT-loop
-Inv-loop s ids₀ i₀ ids i = length ids ≡ length ids₀
+Inv-loop s ids₀ i₀ ids i = 128 ≡ length ids
 
 abbrev μ-loop : tie.MeasureT-loop
-μ-loop s ids₀ i₀ ids i = length ids₀ - i
+μ-loop s ids₀ i₀ ids i = 128 - i
 
 loop-holds : tie.Need-loop-holds Inv-loop μ-loop
 loop-holds c = search needs
@@ -27,8 +27,8 @@ cast-ids c = search needs
 mul-ids : tie.Need-mul-ids Inv-loop μ-loop
 mul-ids c = search needs
 
-slice-write-ids : tie.Need-slice-write-ids Inv-loop μ-loop
-slice-write-ids c = search needs
+array-write-ids : tie.Need-array-write-ids Inv-loop μ-loop
+array-write-ids c = search needs
 
 add-i : tie.Need-add-i Inv-loop μ-loop
 add-i c = search needs
@@ -39,14 +39,11 @@ loop-less c = search needs
 loop-again : tie.Need-loop-again Inv-loop μ-loop
 loop-again c = search needs
 
-same-length : tie.Need-same-length Inv-loop μ-loop
-same-length c = search needs
-
 returns : tie.Need-returns Inv-loop μ-loop
 returns c = search needs
 
-pub take-ids-spec : {M : Type 1} → statement M
-take-ids-spec =
+pub ids-of-spec : {M : Type 1} → statement M
+ids-of-spec =
     tie.close
     (tie.spec
     Inv-loop
@@ -56,9 +53,8 @@ take-ids-spec =
     pair-requires
     cast-ids
     mul-ids
-    slice-write-ids
+    array-write-ids
     add-i
     loop-less
     loop-again
-    same-length
     returns)

@@ -1,22 +1,24 @@
--- `vectors::room::is_untouched` is safe and ends. The measure falls by one with each turn. Assumes nothing.
+-- `vectors::room::holds` is safe and ends. The measure falls by one with each turn. Assumes nothing.
 use borrow.Author.Needs.{needs}
-use mathlib.Core.Path.{_≡_}
-use Prim.Native.Nat.{_≤_, _-_}
+use Prim.Native.Nat.{_-_}
 use lib.ListN.{length}
-use Rattle.vectors.proofs.room.is_untouched.Statement.{statement}
-use Rattle.vectors.proofs.room.is_untouched.Tie as tie
+use Rattle.vectors.proofs.room.holds.Statement.{statement}
+use Rattle.vectors.proofs.room.holds.Tie as tie
 
 abbrev Inv-loop : tie.InvT-loop
-Inv-loop room from is-same₀ i₀ is-same i = Unit {0}
+Inv-loop room octets is-same₀ i₀ is-same i = Unit {0}
 
 abbrev μ-loop : tie.MeasureT-loop
-μ-loop room from is-same₀ i₀ is-same i = length room - i
+μ-loop room octets is-same₀ i₀ is-same i = length room - i
 
 loop-holds : tie.Need-loop-holds Inv-loop μ-loop
 loop-holds c = search needs
 
 shared-slice-read-is-same : tie.Need-shared-slice-read-is-same Inv-loop μ-loop
 shared-slice-read-is-same c = search needs
+
+expected-requires : tie.Need-expected-requires Inv-loop μ-loop
+expected-requires c κs = search needs
 
 add-i : tie.Need-add-i Inv-loop μ-loop
 add-i c = search needs
@@ -30,14 +32,15 @@ loop-again c = search needs
 returns : tie.Need-returns Inv-loop μ-loop
 returns c = search needs
 
-pub is-untouched-spec : {M : Type 1} → statement M
-is-untouched-spec =
+pub holds-spec : {M : Type 1} → statement M
+holds-spec =
     tie.close
     (tie.spec
     Inv-loop
     μ-loop
     loop-holds
     shared-slice-read-is-same
+    expected-requires
     add-i
     loop-less
     loop-again

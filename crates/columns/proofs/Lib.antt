@@ -1,0 +1,2 @@
+-- runs of places looked at together
+pub mod Widths
