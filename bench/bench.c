@@ -1,5 +1,6 @@
 /* The same events through the proved provider and through the plain one: every reply, count and octet sent is compared; then each is timed, and the stack that it touches is measured. */
 #include "measuring.h"
+#include "codec.h"
 #include "ladlestorm.h"
 #include "plain.h"
 
@@ -147,11 +148,11 @@ static void plain_write(void)
     }
 }
 
-/* The functions that these call, each once: for their stack, without the loop's own. */
+/* The function that does the work of each, once: for its stack, without the loop's own. */
 static size written;
 static void our_grab_once(void) { read_brief(grab, sizeof grab, heard.values); }
 static void plain_grab_once(void) { plain_read(grab, sizeof grab, &plain_last); }
-static void our_detach_once(void) { read_brief(detach, sizeof detach, heard.values); read_listed(detach, sizeof detach, heard.values, heard.list); }
+static void our_detach_once(void) { read_listed(detach, sizeof detach, heard.values, heard.list); }
 static void plain_detach_once(void) { plain_read(detach, sizeof detach, &plain_last); }
 static void our_write_once(void) { write_brief(room, sizeof room, 30, 9, 1007, 1, 2); }
 static void plain_write_once(void) { plain_write_confirm(room, sizeof room, 30, 9, 1007, 1, 2, &written); }
@@ -271,8 +272,8 @@ static int same_values(const struct message *m)
     return 1;
 }
 
-/* The codec: what is read and written by both is the same. */
-static void compare_codec(void)
+/* What both read of each served message of the trace is the same. */
+static void compare_reading(void)
 {
     size_t read = 0;
     for (size_t i = 0; i < count; i++) {
@@ -293,6 +294,30 @@ static void compare_codec(void)
     printf("compared: %zu messages read, no difference\n", read);
 }
 
+/* What both write of the confirms of a token's requests is the same: fields in range and beyond, rooms long enough and too short, every octet. */
+static void compare_writing(void)
+{
+    static const uint32_t numbers[] = {30, 32, 36, 40}, users[] = {0, 1000, 1001, 1007, 65535, 65536, ~0u}, tokens[] = {0, 1, 256, 65535, 65536, ~0u};
+    static const size_t rooms[] = {0, 6, 7, 16};
+    size_t written = 0;
+    for (int n = 0; n < 4; n++)
+        for (uint32_t result = 0; result < 18; result++)
+            for (int u = 0; u < 7; u++)
+                for (int k = 0; k < 6; k++)
+                    for (uint32_t status = 0; status < 10; status++)
+                        for (int r = 0; r < 4; r++, written++) {
+                            uint8_t a[16], b[16];
+                            size size_of = 0;
+                            memset(a, 0x5A, sizeof a);
+                            memset(b, 0x5A, sizeof b);
+                            uint32_t x = write_confirm(a, rooms[r], numbers[n], result, users[u], tokens[k], status);
+                            int y = plain_write_confirm(b, rooms[r], numbers[n], result, users[u], tokens[k], status, &size_of);
+                            if (x != (y ? 64 + (uint32_t)y : (uint32_t)size_of) || memcmp(a, b, sizeof a))
+                                fail("what is written", written);
+                        }
+    printf("compared: %zu confirms written, no difference\n", written);
+}
+
 int main(int argc, char **argv)
 {
     for (int i = 1; i < argc; i++)
@@ -300,7 +325,8 @@ int main(int argc, char **argv)
     for (size_t i = 0; i < 64; i++)
         detach[4 + 2 * i] = (uint8_t)i;
     compare();
-    compare_codec();
+    compare_reading();
+    compare_writing();
     printf("%-28s %9s %12s %7s %9s %12s %7s %7s\n", "", "proved ns", "a second", "stack", "plain ns", "a second", "stack", "ratio");
     report("an event of the mix", our_mix, plain_mix, count, 60, our_mix, plain_mix);
     report("a grab and a release", our_pass, plain_pass, 0, 300, our_pass, plain_pass);

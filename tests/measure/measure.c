@@ -1,5 +1,6 @@
 /* Times reading and writing a token message, and a grab and a release by the provider, with the stack that they touch. Least processor time of many tries. */
 #include "measuring.h"
+#include "codec.h"
 #include "ladlestorm.h"
 
 static const uint8_t grab[] = {0x74, 0x00, 0x06, 0x00, 0x00};

@@ -71,10 +71,14 @@ fn id_at(s: &[u8], i: usize, low: u32) -> u32
 fn second_low(o: u8) -> u32
     ensures { λ r. ⌜ SecondId o r ⌝ }
 {
-    match o {
-        0x38 => 0, // CJrq
-        0x4C => 1001, // CDrq
-        0x74 | 0x7C | 0x94 | 0x9C | 0xA4 => 1, // TGrq, TIrq, TPrq, TRrq, TTrq
+    if o % 4 != 0 {
+        return 65536;
+    }
+    let number = o / 4;
+    match number {
+        14 => 0, // CJrq
+        19 => 1001, // CDrq
+        29 | 31 | 37 | 39 | 41 => 1, // TGrq, TIrq, TPrq, TRrq, TTrq
         _ => 65536,
     }
 }

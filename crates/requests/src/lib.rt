@@ -14,12 +14,9 @@ use domain::numbers::Reply;
 pub fn lists(number: u32) -> bool
     ensures { λ r. ⌜ r ≡ listsOf number ⌝ }
 {
-    if 28 < number {
-        return false;
-    }
     match number {
         10 | 14 | 17 | 19 => false,
-        _ => true,
+        _ => number <= 28,
     }
 }
 

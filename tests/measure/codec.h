@@ -1,0 +1,47 @@
+/* A message read and written as the provider does it, by the functions of crates/measured: what one way does not take goes by the next. For one source
+   file a program. */
+#ifndef CODEC_H
+#define CODEC_H
+#include <stddef.h>
+#include <stdint.h>
+
+uint32_t read_brief(const uint8_t *octets, size_t length, uint16_t values[3]);
+uint32_t read_listed(const uint8_t *octets, size_t length, uint16_t values[3], uint16_t list[64]);
+uint32_t read_any(const uint8_t *octets, size_t length, uint32_t values[6], uint16_t list[64]);
+uint32_t write_brief(uint8_t *room, size_t length, uint32_t number, uint32_t result, uint32_t user, uint32_t token, uint32_t status);
+uint32_t write_any(uint8_t *room, size_t length, uint32_t number, uint32_t result, uint32_t user, uint32_t token, uint32_t status);
+
+enum { NOT_READ = 64 };
+
+/* The message that was read last: its number and values, how many ids it lists and these, and the refusal. */
+static struct {
+    uint32_t number, count, refusal;
+    uint16_t values[3], list[64];
+    uint32_t any[6];
+} heard;
+
+static inline void read_message(const uint8_t *octets, size_t length)
+{
+    heard.count = heard.refusal = 0;
+    heard.number = read_brief(octets, length, heard.values);
+    if (heard.number != NOT_READ)
+        return;
+    heard.number = read_listed(octets, length, heard.values, heard.list);
+    if (heard.number != NOT_READ) {
+        heard.count = heard.values[2];
+        return;
+    }
+    heard.count = read_any(octets, length, heard.any, heard.list);
+    heard.number = heard.any[0];
+    heard.refusal = heard.any[5];
+    for (int i = 0; i < 3; i++)
+        heard.values[i] = (uint16_t)heard.any[i + 1];
+}
+
+/* How many octets a confirm of a token's request takes, or 64 and the refusal. */
+static inline uint32_t write_confirm(uint8_t *room, size_t length, uint32_t number, uint32_t result, uint32_t user, uint32_t token, uint32_t status)
+{
+    uint32_t n = write_brief(room, length, number, result, user, token, status);
+    return n ? n : write_any(room, length, number, result, user, token, status);
+}
+#endif
