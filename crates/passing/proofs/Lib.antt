@@ -1,2 +1,3 @@
 pub mod Settling
+pub mod Inquiring
 pub mod Doing

@@ -143,8 +143,8 @@ fn pass(
     carry(keys, modes, values, at, k, d, out)
 }
 
-// TPrq by u on p for token k.
-fn please(
+// TTrq by u on p for token k, or TPrq: nothing is stored.
+fn inquire(
     names: &[u16; 64],
     homes: &[u8; 64],
     keys: &[u16; 64],
@@ -153,11 +153,12 @@ fn please(
     p: u8,
     u: u16,
     k: u16,
+    tests: bool,
     out: &mut [u8],
 ) -> Answer
     ensures { λ r. ⌜ answered r (tokens-of (now (keys .entry)) (now (modes .entry)) (now (values .entry))) (now (out .exit))
         ≡ settle (tokens-of (now (keys .entry)) (now (modes .entry)) (now (values .entry)))
-        (pleaseOf (users-of (now (names .entry)) (now (homes .entry))) (tokens-of (now (keys .entry)) (now (modes .entry)) (now (values .entry))) p u k) (now (out .entry)) ⌝ }
+        ((if tests then testOf else pleaseOf) (users-of (now (names .entry)) (now (homes .entry))) (tokens-of (now (keys .entry)) (now (modes .entry)) (now (values .entry))) p u k) (now (out .entry)) ⌝ }
 {
     let i = deeds::asker(names, homes, p, u);
     if i == NOWHERE {
@@ -167,44 +168,20 @@ fn please(
         };
     }
     let h = tables::tokens::state(keys, modes, values, k);
+    if tests {
+        if out.len() < 10 {
+            return Answer {
+                reply: Reply::NoRoom,
+                sent: 0,
+            };
+        }
+        let status = states::numbers::status_number(states::token::status(h, i));
+        let m = compose::test_confirm(u, k, status);
+        return send(out, p, &m);
+    }
     let mask = tables::users::hosts(names, homes, states::token::party(h));
     let m = compose::please_indication(u, k);
     tell(out, mask, &m)
-}
-
-// TTrq by u on p for token k.
-fn test(
-    names: &[u16; 64],
-    homes: &[u8; 64],
-    keys: &[u16; 64],
-    modes: &[u8; 64],
-    values: &[u64; 64],
-    p: u8,
-    u: u16,
-    k: u16,
-    out: &mut [u8],
-) -> Answer
-    ensures { λ r. ⌜ answered r (tokens-of (now (keys .entry)) (now (modes .entry)) (now (values .entry))) (now (out .exit))
-        ≡ settle (tokens-of (now (keys .entry)) (now (modes .entry)) (now (values .entry)))
-        (testOf (users-of (now (names .entry)) (now (homes .entry))) (tokens-of (now (keys .entry)) (now (modes .entry)) (now (values .entry))) p u k) (now (out .entry)) ⌝ }
-{
-    let i = deeds::asker(names, homes, p, u);
-    if i == NOWHERE {
-        return Answer {
-            reply: Reply::Ignored,
-            sent: 0,
-        };
-    }
-    let h = tables::tokens::state(keys, modes, values, k);
-    if out.len() < 10 {
-        return Answer {
-            reply: Reply::NoRoom,
-            sent: 0,
-        };
-    }
-    let status = states::numbers::status_number(states::token::status(h, i));
-    let m = compose::test_confirm(u, k, status);
-    send(out, p, &m)
 }
 
 // One message to q, for which there is room.
@@ -302,11 +279,20 @@ pub fn request(
         (act new (joined limits m (users-of (now (names .entry)) (now (homes .entry))) cs (tokens-of (now (keys .entry)) (now (modes .entry)) (now (values .entry))))
         p (token-request number first second third)) (now (out .entry))) ⌝ }
 {
-    if 40 < number {
-        return test(names, homes, keys, modes, values, p, first, second, out);
-    }
-    if number == 37 {
-        return please(names, homes, keys, modes, values, p, first, second, out);
+    let tests = 40 < number;
+    if tests | (number == 37) {
+        return inquire(
+            names,
+            homes,
+            keys,
+            modes,
+            values,
+            p,
+            first,
+            second,
+            tests,
+            out,
+        );
     }
     let most = limits.tokens;
     let w = wish_of(number, first, second, third);
