@@ -328,11 +328,11 @@ int main(int argc, char **argv)
     compare_reading();
     compare_writing();
     printf("%-28s %9s %12s %7s %9s %12s %7s %7s\n", "", "proved ns", "a second", "stack", "plain ns", "a second", "stack", "ratio");
-    report("an event of the mix", our_mix, plain_mix, count, 60, our_mix, plain_mix);
-    report("a grab and a release", our_pass, plain_pass, 0, 300, our_pass, plain_pass);
-    report("read TGrq", our_grab, plain_grab, 0, 300, our_grab_once, plain_grab_once);
-    report("read DUrq of 64 ids", our_detach, plain_detach, 0, 300, our_detach_once, plain_detach_once);
-    report("write TGcf, checked", our_write, plain_write, 0, 300, our_write_once, plain_write_once);
+    report("an event of the mix", our_mix, plain_mix, count, 6000, our_mix, plain_mix);
+    report("a grab and a release", our_pass, plain_pass, 0, 3000, our_pass, plain_pass);
+    report("read TGrq", our_grab, plain_grab, 0, 3000, our_grab_once, plain_grab_once);
+    report("read DUrq of 64 ids", our_detach, plain_detach, 0, 3000, our_detach_once, plain_detach_once);
+    report("write TGcf, checked", our_write, plain_write, 0, 3000, our_write_once, plain_write_once);
     shares(cycle_ns());
     return 0;
 }
