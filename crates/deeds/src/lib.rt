@@ -215,8 +215,7 @@ fn answered(
     h: Holding,
     result: u8,
 ) -> Deed
-    requires { ⌜ attached (users-of (now names) (now homes)) p u ≡ At i ⌝ }
-    ensures { λ r. ⌜ ((ts : Tokens) → h ≡ state ts k → Does ts k r (answerOf (users-of (now (names .entry)) (now (homes .entry))) ts p result u k)) ⌝ }
+    ensures { λ r. ⌜ ((ts : Tokens) → h ≡ state ts k → attached (users-of (now (names .entry)) (now (homes .entry))) p u ≡ At i → Does ts k r (answerOf (users-of (now (names .entry)) (now (homes .entry))) ts p result u k)) ⌝ }
 {
     if states::token::is_offered(h, i) {
         let next = states::token::answered(result == 0, h, i);
@@ -225,7 +224,7 @@ fn answered(
     quiet(Fate::Ignored)
 }
 
-// What comes of a request by u on p for token k in state h.
+// What comes of a request by u on p, at place i, for token k in state h.
 pub fn decide(
     names: &[u16; 64],
     homes: &[u8; 64],
@@ -233,17 +232,14 @@ pub fn decide(
     limit: u8,
     p: u8,
     u: u16,
+    i: u8,
     k: u16,
     h: Holding,
     ask: Ask,
 ) -> Deed
-    ensures { λ r. ⌜ ((ts : Tokens) → h ≡ state ts k
+    ensures { λ r. ⌜ ((ts : Tokens) → h ≡ state ts k → attached (users-of (now (names .entry)) (now (homes .entry))) p u ≡ At i
         → Does ts k r (asked ask (at-limit limit (now (keys .entry))) (users-of (now (names .entry)) (now (homes .entry))) ts p u k)) ⌝ }
 {
-    let i = asker(names, homes, p, u);
-    if i == NOWHERE {
-        return quiet(Fate::Ignored);
-    }
     if let Ask::Answer(result) = ask {
         return answered(names, homes, p, u, i, k, h, result);
     }

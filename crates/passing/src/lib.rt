@@ -5,11 +5,11 @@ ghost use Prim.Native.Nat.{ℕ, _+_, _≤_};
 ghost use lib.Dec.{eqb};
 ghost use lib.ListN.{length};
 ghost use Rattle.places.specs.Sets.{if_then_else_};
-ghost use Rattle.places.specs.Places.{find};
+ghost use Rattle.places.specs.Places.{At, find};
 ghost use Rattle.messages.specs.Named.{Message};
 ghost use Rattle.records.specs.Records.{to, tell as tellOf, wire};
 ghost use Rattle.domain.specs.Numbers.{replyNumber};
-ghost use Rattle.domain.specs.Tables.{Channels, Tokens, Domain, put-tokens, users-of, tokens-of, at-limit};
+ghost use Rattle.domain.specs.Tables.{Channels, Tokens, Domain, put-tokens, users-of, tokens-of, attached, state};
 ghost use Rattle.domain.specs.Effects.{Effect, settle, answered, done, within};
 ghost use Rattle.domain.specs.Passing.{please as pleaseOf, test as testOf};
 ghost use Rattle.domain.specs.Events.{act, tokens-full};
@@ -24,31 +24,10 @@ use deeds::NOWHERE;
 use domain::Limits;
 use domain::answer::Answer;
 use domain::numbers::Reply;
+use domain::token::Holding;
 
 // The room that a deed's record takes.
 const ROOM: usize = 11;
-
-// What comes of a request by u on p for token k, which stands at a place or nowhere.
-fn consider(
-    names: &[u16; 64],
-    homes: &[u8; 64],
-    keys: &[u16; 64],
-    modes: &[u8; 64],
-    values: &[u64; 64],
-    at: usize,
-    limit: u8,
-    p: u8,
-    u: u16,
-    k: u16,
-    ask: Ask,
-) -> Deed
-    requires { ⌜ place 64 at ≡ find (now keys) k ⌝ }
-    ensures { λ r. ⌜ Does (tokens-of (now (keys .entry)) (now (modes .entry)) (now (values .entry))) k r
-        (asked ask (at-limit limit (now (keys .entry))) (users-of (now (names .entry)) (now (homes .entry))) (tokens-of (now (keys .entry)) (now (modes .entry)) (now (values .entry))) p u k) ⌝ }
-{
-    let h = tables::tokens::state_at(modes, values, at);
-    deeds::decide(names, homes, keys, limit, p, u, k, h, ask)
-}
 
 // What becomes of token k, which stands at a place or nowhere, is stored.
 fn keep(
@@ -120,54 +99,21 @@ fn carry(
     a
 }
 
-// A request by u on p about token k, which is looked for once.
-fn pass(
-    names: &[u16; 64],
-    homes: &[u8; 64],
-    keys: &mut [u16; 64],
-    modes: &mut [u8; 64],
-    values: &mut [u64; 64],
-    limit: u8,
-    p: u8,
-    u: u16,
-    k: u16,
-    ask: Ask,
-    out: &mut [u8],
-) -> Answer
-    ensures { λ r. ⌜ answered r (tokens-of (now (keys .exit)) (now (modes .exit)) (now (values .exit))) (now (out .exit))
-        ≡ settle (tokens-of (now (keys .entry)) (now (modes .entry)) (now (values .entry)))
-        (asked ask (at-limit limit (now (keys .entry))) (users-of (now (names .entry)) (now (homes .entry))) (tokens-of (now (keys .entry)) (now (modes .entry)) (now (values .entry))) p u k) (now (out .entry)) ⌝ }
-{
-    let at = seeking::find(keys, k);
-    let d = consider(names, homes, keys, modes, values, at, limit, p, u, k, ask);
-    carry(keys, modes, values, at, k, d, out)
-}
-
-// TTrq by u on p for token k, or TPrq: nothing is stored.
+// TTrq by u on p, at place i, for token k in state h, or TPrq: nothing is stored.
 fn inquire(
     names: &[u16; 64],
     homes: &[u8; 64],
-    keys: &[u16; 64],
-    modes: &[u8; 64],
-    values: &[u64; 64],
     p: u8,
     u: u16,
+    i: u8,
     k: u16,
+    h: Holding,
     tests: bool,
     out: &mut [u8],
 ) -> Answer
-    ensures { λ r. ⌜ answered r (tokens-of (now (keys .entry)) (now (modes .entry)) (now (values .entry))) (now (out .exit))
-        ≡ settle (tokens-of (now (keys .entry)) (now (modes .entry)) (now (values .entry)))
-        ((if tests then testOf else pleaseOf) (users-of (now (names .entry)) (now (homes .entry))) (tokens-of (now (keys .entry)) (now (modes .entry)) (now (values .entry))) p u k) (now (out .entry)) ⌝ }
+    ensures { λ r. ⌜ ((ts : Tokens) → h ≡ state ts k → attached (users-of (now (names .entry)) (now (homes .entry))) p u ≡ At i
+        → answered r ts (now (out .exit)) ≡ settle ts ((if tests then testOf else pleaseOf) (users-of (now (names .entry)) (now (homes .entry))) ts p u k) (now (out .entry))) ⌝ }
 {
-    let i = deeds::asker(names, homes, p, u);
-    if i == NOWHERE {
-        return Answer {
-            reply: Reply::Ignored,
-            sent: 0,
-        };
-    }
-    let h = tables::tokens::state(keys, modes, values, k);
     if tests {
         if out.len() < 10 {
             return Answer {
@@ -217,48 +163,28 @@ fn tell(out: &mut [u8], mask: u16, m: &[u8]) -> Answer
     }
 }
 
-// Who asks for what, of which token.
-struct Wish {
-    user: u16,
-    token: u16,
-    ask: Ask,
+// The one value or the other. A choice, and no branch.
+fn chosen(yes: bool, a: u16, b: u16) -> u16
+    ensures { λ r. ⌜ r ≡ (if yes then a else b) ⌝ }
+{
+    if yes { a } else { b }
 }
 
-// What a request asks for that is about to change a token, by its number.
-fn wish_of(number: u32, first: u16, second: u16, third: u16) -> Wish
-    ensures { λ r. ⌜ ((new : ℕ) (d : Domain) (p : ℕ) → act new d p (pass-request number first second third)
-        ≡ within (put-tokens d) (asked (r .ask) (tokens-full d) (d .users) (d .tokens) p (r .user) (r .token))) ⌝ }
+// What a request asks for that is about to change a token, by its number. The user and the token of a TVrs, 35, stand behind its result.
+fn ask_of(number: u32, first: u16, third: u16) -> Ask
+    ensures { λ r. ⌜ ((second new : ℕ) (d : Domain) (p : ℕ) → act new d p (pass-request number first second third)
+        ≡ within (put-tokens d) (asked r (tokens-full d) (d .users) (d .tokens) p (if eqb number 35 then second else first) (if eqb number 35 then third else second))) ⌝ }
 {
     match number {
-        29 => Wish {
-            user: first,
-            token: second,
-            ask: Ask::Grab,
-        },
-        31 => Wish {
-            user: first,
-            token: second,
-            ask: Ask::Inhibit,
-        },
-        33 => Wish {
-            user: first,
-            token: second,
-            ask: Ask::Offer(third),
-        },
-        35 => Wish {
-            user: second,
-            token: third,
-            ask: Ask::Answer((first % 16) as u8),
-        },
-        _ => Wish {
-            user: first,
-            token: second,
-            ask: Ask::Release,
-        },
+        29 => Ask::Grab,
+        31 => Ask::Inhibit,
+        33 => Ask::Offer(third),
+        35 => Ask::Answer((first % 16) as u8),
+        _ => Ask::Release,
     }
 }
 
-// Each of these requests, by its number.
+// Each of these requests, by its number: the user and the token are sought, then it is told apart.
 pub fn request(
     limits: Limits,
     names: &[u16; 64],
@@ -279,35 +205,24 @@ pub fn request(
         (act new (joined limits m (users-of (now (names .entry)) (now (homes .entry))) cs (tokens-of (now (keys .entry)) (now (modes .entry)) (now (values .entry))))
         p (token-request number first second third)) (now (out .entry))) ⌝ }
 {
+    let answers = number == 35;
+    let u = chosen(answers, second, first);
+    let k = chosen(answers, third, second);
+    let i = deeds::asker(names, homes, p, u);
+    if i == NOWHERE {
+        return Answer {
+            reply: Reply::Ignored,
+            sent: 0,
+        };
+    }
+    let at = seeking::find(keys, k);
+    let h = tables::tokens::state_at(modes, values, at);
     let tests = 40 < number;
     if tests | (number == 37) {
-        return inquire(
-            names,
-            homes,
-            keys,
-            modes,
-            values,
-            p,
-            first,
-            second,
-            tests,
-            out,
-        );
+        return inquire(names, homes, p, u, i, k, h, tests, out);
     }
     let most = limits.tokens;
-    let w = wish_of(number, first, second, third);
-    let ask = w.ask;
-    pass(
-        names,
-        homes,
-        keys,
-        modes,
-        values,
-        most,
-        p,
-        w.user,
-        w.token,
-        ask,
-        out,
-    )
+    let ask = ask_of(number, first, third);
+    let d = deeds::decide(names, homes, keys, most, p, u, i, k, h, ask);
+    carry(keys, modes, values, at, k, d, out)
 }
