@@ -1,7 +1,8 @@
 // Where an id stands in a column. A place whose id is 0 is free. A place that is nowhere is answered as the column's length.
 ghost use mathlib.Core.Path.{_≡_};
 ghost use Prim.Native.Nat.{_+_, _<_, _≤_};
-ghost use lib.ListN.{length, drop};
+ghost use mathlib.Core.Bool.{true};
+ghost use lib.ListN.{length, getD, drop};
 ghost use Rattle.places.specs.Sets.{if_then_else_};
 ghost use Rattle.places.specs.Places.{first as firstIn, find as findIn, spare as spareIn, number};
 
@@ -79,29 +80,24 @@ fn skipped(ids: &[u16], x: u16, many: bool) -> usize
     i
 }
 
-// x stands at the first place: most often it does, in a small conference. This only chooses a way.
-fn at_start(ids: &[u16], x: u16) -> bool {
+// x stands at the first place: most often it does, in a small conference.
+fn at_start(ids: &[u16], x: u16) -> bool
+    ensures { λ r. ⌜ (r ≡ true → (0 < length (now (ids .entry))) × (getD (now (ids .entry)) 0 0 ≡ x)) ⌝ }
+{
     if 0 < ids.len() {
         return ids[0] == x;
     }
     false
 }
 
-// A place that x does not stand before.
-fn passed(ids: &[u16], x: u16, many: bool) -> usize
-    ensures { λ r. ⌜ (r ≤ length (now (ids .entry))) × (firstIn 0 x (now (ids .entry)) ≡ firstIn r x (drop r (now (ids .entry)))) ⌝ }
+// The first place that holds x: the start, or the place that was skipped to, or, behind the last 64, one sought place by place.
+fn first(ids: &[u16], x: u16, many: bool) -> usize
+    ensures { λ r. ⌜ r ≡ number (length (now (ids .entry))) (firstIn 0 x (now (ids .entry))) ⌝ }
 {
     if at_start(ids, x) {
         return 0;
     }
-    skipped(ids, x, many)
-}
-
-// The first place that holds x: that place, or, behind the last 64, one sought place by place.
-fn first(ids: &[u16], x: u16, many: bool) -> usize
-    ensures { λ r. ⌜ r ≡ number (length (now (ids .entry))) (firstIn 0 x (now (ids .entry))) ⌝ }
-{
-    let mut i = passed(ids, x, many);
+    let mut i = skipped(ids, x, many);
     while i < ids.len() {
         if ids[i] == x {
             return i;

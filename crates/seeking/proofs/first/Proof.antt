@@ -16,21 +16,28 @@ Inv-loop ids x many i₀ i = (i ≤ length ids) × (first 0 x ids ≡ first i x 
 abbrev μ-loop : tie.MeasureT-loop
 μ-loop ids x many i₀ i = length ids - i
 
-passed-requires : tie.Need-passed-requires Inv-loop μ-loop
-passed-requires c κs = search needs
-
-loop-holds : tie.Need-loop-holds Inv-loop μ-loop
-loop-holds c = (search needs, c .passed .ensures .1)
-
-mul-if1 : tie.Need-mul-if1 Inv-loop μ-loop
-mul-if1 c = search needs
-
-shared-slice-read-if1 : tie.Need-shared-slice-read-if1 Inv-loop μ-loop
-shared-slice-read-if1 c = search needs
+at-start-requires : tie.Need-at-start-requires Inv-loop μ-loop
+at-start-requires c κs = search needs
 
 returns : tie.Need-returns Inv-loop μ-loop
 unfolding number
-returns c = sym (ap (number _) (c .before .before .before .loop .inv .1 ∙ first-hit _ _ _ (search needs) (c .if1 .taken)))
+returns c = let s = c .before .at-start .ensures (c .if1 .taken) in sym (ap (number _) (first-hit _ _ 0 (s .0) (s .1)))
+
+skipped-requires : tie.Need-skipped-requires Inv-loop μ-loop
+skipped-requires c κs = search needs
+
+loop-holds : tie.Need-loop-holds Inv-loop μ-loop
+loop-holds c = (search needs, c .skipped .ensures .1)
+
+mul-if2 : tie.Need-mul-if2 Inv-loop μ-loop
+mul-if2 c = search needs
+
+shared-slice-read-if2 : tie.Need-shared-slice-read-if2 Inv-loop μ-loop
+shared-slice-read-if2 c = search needs
+
+returns-2 : tie.Need-returns-2 Inv-loop μ-loop
+unfolding number
+returns-2 c = sym (ap (number _) (c .before .before .before .loop .inv .1 ∙ first-hit _ _ _ (search needs) (c .if2 .taken)))
 
 add-i : tie.Need-add-i Inv-loop μ-loop
 add-i c = search needs
@@ -39,13 +46,13 @@ loop-less : tie.Need-loop-less Inv-loop μ-loop
 loop-less c = search needs
 
 loop-again : tie.Need-loop-again Inv-loop μ-loop
-loop-again c = (search needs, rw add-one (c .before .before .before .loop .inv .1 ∙ first-miss _ _ _ (search needs) (c .if1 .left)))
+loop-again c = (search needs, rw add-one (c .before .before .before .loop .inv .1 ∙ first-miss _ _ _ (search needs) (c .if2 .left)))
 
-returns-2 : tie.Need-returns-2 Inv-loop μ-loop
+returns-3 : tie.Need-returns-3 Inv-loop μ-loop
 unfolding number
-returns-2 c =
+returns-3 c =
     let b = c .before .loop in
-    let a = c .before .before .before .before .args in
+    let a = c .before .before .before .before .before .before .args in
     let e : b .i ≡ length (a .ids .now) = omega arith in
     e ∙ sym (ap (number (length (a .ids .now))) (b .inv .1 ∙ first-none _ _ _ (search needs)))
 
@@ -55,12 +62,14 @@ first-spec =
     (tie.spec
     Inv-loop
     μ-loop
-    passed-requires
-    loop-holds
-    mul-if1
-    shared-slice-read-if1
+    at-start-requires
     returns
+    skipped-requires
+    loop-holds
+    mul-if2
+    shared-slice-read-if2
+    returns-2
     add-i
     loop-less
     loop-again
-    returns-2)
+    returns-3)
