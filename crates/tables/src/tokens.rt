@@ -40,23 +40,22 @@ fn seat_for(keys: &[u16; 64], i: usize) -> usize
     seeking::spare(keys)
 }
 
-// Token k, which stands at place i or nowhere, has state h; a free token has no place.
+// Token k, which stands at place i or nowhere, has this cell; a free token, whose mode is 0, has no place.
 pub fn set_at(
     keys: &mut [u16; 64],
     modes: &mut [u8; 64],
     values: &mut [u64; 64],
     i: usize,
     k: u16,
-    h: Holding,
+    t: Token,
 )
     ensures { λ _. ⌜ tokens-of (now (keys .exit)) (now (modes .exit)) (now (values .exit))
-        ≡ set-at (tokens-of (now (keys .entry)) (now (modes .entry)) (now (values .entry))) (place 64 i) k h ⌝ }
+        ≡ set-at (tokens-of (now (keys .entry)) (now (modes .entry)) (now (values .entry))) (place 64 i) k t ⌝ }
 {
-    if states::token::free(h) {
-        store(keys, modes, values, i, 0, Token { mode: 0, value: 0 });
+    if t.mode == 0 {
+        store(keys, modes, values, i, 0, t);
         return;
     }
-    let t = states::token::new_token(h);
     let j = seat_for(keys, i);
     store(keys, modes, values, j, k, t);
 }
