@@ -15,14 +15,17 @@ use Rattle.compose.specs.declared.Confirm.{Confirm}
 use Rattle.domain.specs.declared.numbers.Result.{Result}
 use Rattle.domain.specs.declared.token.Holding.{Holding}
 use Rattle.domain.specs.declared.token.Holding.the-variants.{Free, Grabbed, Inhibited, Giving, Given}
+use Rattle.domain.specs.declared.token.Token.{Token}
 use Rattle.domain.proofs.token.Holding.{the-type}
 use Rattle.domain.specs.declared.token.Turned.{Turned as CodeTurned}
 use Rattle.domain.specs.declared.token.Turned.the-variants.{Fails, Turns as TurnsTo}
+use Rattle.domain.specs.Cells.{token-of}
 use Rattle.domain.specs.Numbers.{resultNumber}
 use Rattle.domain.specs.Tokens.{turnedOf, status, grabbed-by, offered-to, answered}
 use Rattle.domain.specs.Tables.{Users, Tokens, link, attached, state, set-token}
 use Rattle.domain.specs.Effects.{Effect, done, ignored}
 use Rattle.domain.specs.Passing.{turn, take-token, share-token, drop-token, offer, answer, informed}
+use Rattle.tables.proofs.TokenLaws.{set-found}
 use Rattle.deeds.specs.declared.Ask.{Ask}
 use Rattle.deeds.specs.declared.Ask.the-variants.{Grab, Inhibit, Release, Offer, Answer}
 use Rattle.deeds.specs.declared.Fate.the-variants.{Ignored, Stays, Turns}
@@ -37,18 +40,18 @@ module _ (ts : Tokens) (k : ℕ) where
     unfolding Does doing telling fated
     stays r = record { message = x; octets = o; effect = r }
 
-    pub turns : (h : Holding) → e ≡ done (set-token ts k h) (to q x ∷ []) → Does ts k (record { fate = Turns h; told = true; q = q; m = m }) e
+    pub turns : (h : Holding) {t : Token} → t ≡ token-of h → e ≡ done (set-token ts k h) (to q x ∷ []) → Does ts k (record { fate = Turns t; told = true; q = q; m = m }) e
     unfolding Does doing telling fated
-    turns h r = record { message = x; octets = o; effect = r }
+    turns h c r = record { message = x; octets = o; effect = rw (c, set-found ts k h) r }
 
   module _ (d : Deed) {e : Effect Tokens} where
     pub quiet-ignored : d .fate ≡ Ignored → e ≡ ignored → Does ts k d e
     unfolding Does doing
     quiet-ignored f r = rw f r
 
-    pub quiet-turns : (h : Holding) → d .fate ≡ Turns h → d .told ≡ false → e ≡ done (set-token ts k h) [] → Does ts k d e
+    pub quiet-turns : (h : Holding) {t : Token} → t ≡ token-of h → d .fate ≡ Turns t → d .told ≡ false → e ≡ done (set-token ts k h) [] → Does ts k d e
     unfolding Does doing telling fated
-    quiet-turns h f t r = rw (f, t) r
+    quiet-turns h c f s r = rw (f, s, c, set-found ts k h) r
 
     pub does-as : {w : Effect Tokens} → Does ts k d w → w ≡ e → Does ts k d e
     does-as p r = rw r at p
@@ -60,10 +63,10 @@ module _ (ts : Tokens) (p u i k : ℕ) (kind : Confirm) (t : CodeTurned) {m : Li
   unfolding turn
   turned-fails h why n is e r o = stays ts k (confirm kind n u k (status h i)) o (rw (e, is, r) refl)
 
-  pub turned-turns : (h : Holding) → t ≡ TurnsTo h → m ≡ wire (confirm kind 0 u k (status h i))
-      → Does ts k (record { fate = Turns h; told = true; q = p; m = m }) (turn ts p u i k (confirm kind) (turnedOf t))
+  pub turned-turns : (h : Holding) {c : Token} → t ≡ TurnsTo h → c ≡ token-of h → m ≡ wire (confirm kind 0 u k (status h i))
+      → Does ts k (record { fate = Turns c; told = true; q = p; m = m }) (turn ts p u i k (confirm kind) (turnedOf t))
   unfolding turn
-  turned-turns h e o = turns ts k (confirm kind 0 u k (status h i)) o h (rw e refl)
+  turned-turns h e is o = turns ts k (confirm kind 0 u k (status h i)) o h is (rw e refl)
 
 pub asked-nowhere : (ask : Ask) (full : Bool) (us : Users) (ts : Tokens) (p u k : ℕ) → attached us p u ≡ Nowhere → asked ask full us ts p u k ≡ ignored
 unfolding take-token share-token drop-token offer answer

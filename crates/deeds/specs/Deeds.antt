@@ -3,11 +3,13 @@ use Prim.Native.Nat.{ℕ}
 use mathlib.Core.Path.{_≡_}
 use mathlib.Core.Bool.{Bool, true, false}
 use mathlib.Core.List.{List, [], _∷_}
+use Rattle.places.specs.Places.{find}
 use Rattle.messages.specs.Named.{Message}
 use Rattle.records.specs.Records.{to, wire}
-use Rattle.domain.specs.Tables.{Users, Tokens, set-token}
+use Rattle.domain.specs.Tables.{Users, Tokens}
 use Rattle.domain.specs.Effects.{Effect, ignored, done}
 use Rattle.domain.specs.Passing.{take-token, share-token, drop-token, offer, answer}
+use Rattle.tables.specs.Numbered.{set-at}
 use Rattle.deeds.specs.declared.Ask.{Ask}
 use Rattle.deeds.specs.declared.Ask.the-variants.{Grab, Inhibit, Release, Offer, Answer}
 use Rattle.deeds.specs.declared.Fate.{Fate}
@@ -36,17 +38,17 @@ telling false q m after e = e ≡ done after []
 abbrev pub Tells : (d : Deed) (after : Tokens) (e : Effect Tokens) → Type 0
 Tells d after e = telling (d .told) (d .q) (d .m) after e
 
--- the table of tokens after it
+-- the table of tokens after it: the cell of the state that token k turns to stands at its place
 unfoldable pub fated : (ts : Tokens) (k : ℕ) (fate : Fate) → Tokens
 fated ts k Ignored = ts
 fated ts k Stays = ts
-fated ts k (Turns h) = set-token ts k h
+fated ts k (Turns t) = set-at ts (find (ts .ids) k) k t
 
 -- the deed is the effect e
 unfoldable pub doing : (fate : Fate) (rest : Type 0) (e : Effect Tokens) → Type 0
 doing Ignored rest e = e ≡ ignored
 doing Stays rest e = rest
-doing (Turns h) rest e = rest
+doing (Turns t) rest e = rest
 
 unfoldable pub Does : (ts : Tokens) (k : ℕ) (d : Deed) (e : Effect Tokens) → Type 0
 Does ts k d e = doing (d .fate) (Tells d (fated ts k (d .fate)) e) e

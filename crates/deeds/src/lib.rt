@@ -18,6 +18,7 @@ ghost use Rattle.deeds.specs.Attempts.{refusal, attempted, kindOf};
 use compose::Confirm;
 use domain::numbers::Result;
 use domain::token::Holding;
+use domain::token::Token;
 use domain::token::Turned;
 
 // A place that is nowhere.
@@ -32,11 +33,11 @@ pub enum Ask {
     Answer(u8),
 }
 
-// The request is ignored, or the token stays as it is, or turns to a state.
+// The request is ignored, or the token stays as it is, or turns to a state, whose cell this is.
 pub enum Fate {
     Ignored,
     Stays,
-    Turns(Holding),
+    Turns(Token),
 }
 
 // What is done: what becomes of the token, and whether a connection is told, with the octets of its message.
@@ -104,7 +105,7 @@ fn turned(kind: Confirm, p: u8, u: u16, i: u8, k: u16, h: Holding, t: Turned) ->
             }
         }
         Turned::Turns(after) => Deed {
-            fate: Fate::Turns(after),
+            fate: Fate::Turns(states::token::new_token(after)),
             told: true,
             q: p,
             m: confirm(kind, 0, u, k, after, i),
@@ -128,7 +129,7 @@ fn given(homes: &[u8; 64], u: u16, i: u8, k: u16, j: u8, recipient: u16) -> Deed
     ensures { λ r. ⌜ ((ts : Tokens) → Does ts k r (done (set-token ts k (Holding.Giving i j)) (to (getD (now (homes .entry)) j 16) (TVin u k recipient) ∷ []))) ⌝ }
 {
     Deed {
-        fate: Fate::Turns(Holding::Giving(i, j)),
+        fate: Fate::Turns(states::token::new_token(Holding::Giving(i, j))),
         told: true,
         q: tables::users::link_at(homes, j),
         m: compose::give_indication(u, k, recipient),
@@ -188,7 +189,7 @@ fn concluded(
 {
     if let Holding::Giving(g, _) = h {
         return Deed {
-            fate: Fate::Turns(next),
+            fate: Fate::Turns(states::token::new_token(next)),
             told: true,
             q: tables::users::link_at(homes, g),
             m: confirm(
@@ -201,7 +202,7 @@ fn concluded(
             ),
         };
     }
-    quiet(Fate::Turns(next))
+    quiet(Fate::Turns(states::token::new_token(next)))
 }
 
 // TVrs by the user at place i for token k in state h: any result but 0 declines.

@@ -5,6 +5,9 @@ use borrow.Author.Needs.{needs}
 use Rattle.deeds.proofs.given.Statement.{statement}
 use Rattle.deeds.proofs.given.Tie as tie
 
+new-token-requires : tie.Need-new-token-requires
+new-token-requires c κs = search needs
+
 link-at-requires : tie.Need-link-at-requires
 link-at-requires c κs = search needs
 
@@ -13,8 +16,8 @@ give-indication-requires c κs = search needs
 
 returns : tie.Need-returns
 returns c =
-    λ ts. let a = c .before .before .args in
-    turns ts (a .k) (TVin (a .u) (a .k) (a .recipient)) (c .give-indication .ensures) (Giving (a .i) (a .j)) (rw (c .before .link-at .ensures))
+    λ ts. let a = c .before .before .before .args in
+    turns ts (a .k) (TVin (a .u) (a .k) (a .recipient)) (c .give-indication .ensures) (Giving (a .i) (a .j)) (c .before .before .new-token .ensures) (rw (c .before .link-at .ensures))
 
 pub given-spec : {M : Type 1} → statement M
-given-spec = tie.close (tie.spec link-at-requires give-indication-requires returns)
+given-spec = tie.close (tie.spec new-token-requires link-at-requires give-indication-requires returns)

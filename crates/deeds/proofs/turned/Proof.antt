@@ -15,6 +15,9 @@ confirm-requires c κs = search needs
 enum-known-t-2 : tie.Need-enum-known-t-2
 enum-known-t-2 c = search needs
 
+new-token-requires : tie.Need-new-token-requires
+new-token-requires c κs = search needs
+
 confirm-requires-2 : tie.Need-confirm-requires-2
 confirm-requires-2 c κs = search needs
 
@@ -25,8 +28,8 @@ returns c =
 
 returns-2 : tie.Need-returns-2
 returns-2 c =
-    λ ts is. let a = c .before .before .before .before .args in
-    turned-turns ts (a .p) (a .u) (a .i) (a .k) (a .kind) (a .t) (c .before .before .t2 .given .0 .0) (c .before .before .t2 .given .1) (c .confirm2 .ensures)
+    λ ts is. let a = c .before .before .before .before .before .args in
+    turned-turns ts (a .p) (a .u) (a .i) (a .k) (a .kind) (a .t) (c .before .before .before .t2 .given .0 .0) (c .before .before .before .t2 .given .1) (c .before .new-token .ensures) (c .confirm2 .ensures)
 
 pub turned-spec : {M : Type 1} → statement M
 turned-spec =
@@ -36,6 +39,7 @@ turned-spec =
     result-number-requires
     confirm-requires
     enum-known-t-2
+    new-token-requires
     confirm-requires-2
     returns
     returns-2)
