@@ -48,13 +48,13 @@ pub unfated : (ts : Tokens) (k : ℕ) (fate : Fate) → OneOf (0 ∷ 1 ∷ []) (
 unfolding fated
 unfated ts k Ignored e = refl
 unfated ts k Stays e = refl
-unfated ts k (Turns h) e = absurd (miss (0 ∷ 1 ∷ []) 2 tt e)
+unfated ts k (Turns t) e = absurd (miss (0 ∷ 1 ∷ []) 2 tt e)
 
 goes-on : (fate : Fate) (rest : Type 0) (e : Effect Tokens) → OneOf (1 ∷ 2 ∷ []) (tagOf the-type fate) → doing fate rest e → rest
 unfolding doing
 goes-on Ignored rest e o r = absurd (miss (1 ∷ 2 ∷ []) 0 tt o)
 goes-on Stays rest e o r = r
-goes-on (Turns h) rest e o r = r
+goes-on (Turns t) rest e o r = r
 
 module _ (ts : Tokens) (k : ℕ) (d : Deed) (e : Effect Tokens) (does : Does ts k d e) where
   pub does-ignored : d .fate ≡ Ignored → e ≡ ignored

@@ -41,8 +41,8 @@ fn keep(
     ensures { λ _. ⌜ (place 64 at ≡ find (now (keys .entry)) k → tokens-of (now (keys .exit)) (now (modes .exit)) (now (values .exit))
         ≡ fated (tokens-of (now (keys .entry)) (now (modes .entry)) (now (values .entry))) k fate) ⌝ }
 {
-    if let Fate::Turns(h) = fate {
-        tables::tokens::set_at(keys, modes, values, at, k, h);
+    if let Fate::Turns(t) = fate {
+        tables::tokens::set_at(keys, modes, values, at, k, t);
     }
 }
 
@@ -163,23 +163,16 @@ fn tell(out: &mut [u8], mask: u16, m: &[u8]) -> Answer
     }
 }
 
-// The one value or the other. A choice, and no branch.
-fn chosen(yes: bool, a: u16, b: u16) -> u16
-    ensures { λ r. ⌜ r ≡ (if yes then a else b) ⌝ }
-{
-    if yes { a } else { b }
-}
-
-// What a request asks for that is about to change a token, by its number. The user and the token of a TVrs, 35, stand behind its result.
-fn ask_of(number: u32, first: u16, third: u16) -> Ask
-    ensures { λ r. ⌜ ((second new : ℕ) (d : Domain) (p : ℕ) → act new d p (pass-request number first second third)
-        ≡ within (put-tokens d) (asked r (tokens-full d) (d .users) (d .tokens) p (if eqb number 35 then second else first) (if eqb number 35 then third else second))) ⌝ }
+// What a request asks for that is about to change a token, by its number. `more` is the recipient of a TVrq, 33, or the result of a TVrs, 35.
+fn ask_of(number: u32, more: u16) -> Ask
+    ensures { λ r. ⌜ ((u k new : ℕ) (d : Domain) (p : ℕ) → act new d p (pass-request number u k more)
+        ≡ within (put-tokens d) (asked r (tokens-full d) (d .users) (d .tokens) p u k)) ⌝ }
 {
     match number {
         29 => Ask::Grab,
         31 => Ask::Inhibit,
-        33 => Ask::Offer(third),
-        35 => Ask::Answer((first % 16) as u8),
+        33 => Ask::Offer(more),
+        35 => Ask::Answer((more % 16) as u8),
         _ => Ask::Release,
     }
 }
@@ -194,20 +187,17 @@ pub fn request(
     values: &mut [u64; 64],
     p: u8,
     number: u32,
-    first: u16,
-    second: u16,
-    third: u16,
+    u: u16,
+    k: u16,
+    more: u16,
     out: &mut [u8],
 ) -> Answer
     ensures { λ r. ⌜ ((m : ℕ) (cs : Channels) (new : ℕ) → answered r (joined limits m (users-of (now (names .entry)) (now (homes .entry))) cs
         (tokens-of (now (keys .exit)) (now (modes .exit)) (now (values .exit)))) (now (out .exit))
         ≡ settle (joined limits m (users-of (now (names .entry)) (now (homes .entry))) cs (tokens-of (now (keys .entry)) (now (modes .entry)) (now (values .entry))))
         (act new (joined limits m (users-of (now (names .entry)) (now (homes .entry))) cs (tokens-of (now (keys .entry)) (now (modes .entry)) (now (values .entry))))
-        p (token-request number first second third)) (now (out .entry))) ⌝ }
+        p (token-request number u k more)) (now (out .entry))) ⌝ }
 {
-    let answers = number == 35;
-    let u = chosen(answers, second, first);
-    let k = chosen(answers, third, second);
     let i = deeds::asker(names, homes, p, u);
     if i == NOWHERE {
         return Answer {
@@ -222,7 +212,7 @@ pub fn request(
         return inquire(names, homes, p, u, i, k, h, tests, out);
     }
     let most = limits.tokens;
-    let ask = ask_of(number, first, third);
+    let ask = ask_of(number, more);
     let d = deeds::decide(names, homes, keys, most, p, u, i, k, h, ask);
     carry(keys, modes, values, at, k, d, out)
 }

@@ -1,7 +1,4 @@
-use mathlib.Core.Path.{_∙_}
 use Rattle.domain.specs.Tables.{tokens-of}
-use Rattle.tables.specs.Numbered.{place}
-use Rattle.tables.proofs.TokenLaws.{set-found}
 use Rattle.deeds.specs.Deeds.{fated}
 use Rattle.passing.proofs.Doing.{unfated}
 use borrow.Author.Needs.{needs}
@@ -16,9 +13,7 @@ set-at-requires c κs = search needs
 
 returns : tie.Need-returns
 unfolding fated
-returns c =
-    λ e. let a = c .before .before .before .before .before .before .before .args in
-    rw (c .before .before .before .before .before .fate .given .1) (c .set-at .ensures ∙ set-found (tokens-of (a .keys .now) (a .modes .now) (a .values .now)) (a .k) (c .before .before .before .before .before .fate .given .0 .0) (place 64 (a .at)) e)
+returns c = λ e. rw (c .before .before .before .before .before .fate .given .1, ← e) (c .set-at .ensures)
 
 returns-2 : tie.Need-returns-2
 returns-2 c =

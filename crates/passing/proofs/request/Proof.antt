@@ -15,25 +15,25 @@ use Rattle.passing.proofs.request.Tie as tie
 
 returns : tie.Need-returns
 unfolding settle
-returns c = λ m cs new. let a = c .before .before .before .before .before .args in
-    on-tokens (a .limits) m _ cs _ new (a .p) (token-request (a .number) (a .first) (a .second) (a .third)) _ ignored refl
-    (ignored-to new _ (a .p) (a .number) (a .first) (a .second) (a .third) (rw (c .before .before .before .chosen .ensures) at (c .before .asker .ensures .0 (c .if1 .taken))))
+returns c = λ m cs new. let a = c .before .before .before .args in
+    on-tokens (a .limits) m _ cs _ new (a .p) (token-request (a .number) (a .u) (a .k) (a .more)) _ ignored refl
+    (ignored-to new _ (a .p) (a .number) (a .u) (a .k) (a .more) (c .before .asker .ensures .0 (c .if1 .taken)))
 
 returns-2 : tie.Need-returns-2
 returns-2 c = λ m cs new. let s = c .before .before .before .before .before in
     let f = s .before .before .before in
     let i = f .before .before .before in
-    let a = i .before .before .before .before .before .args in
+    let a = i .before .before .before .args in
     let ts = tokens-of (a .keys .now) (a .modes .now) (a .values .now) in
-    let k = i .before .before .chosen2 .result in
-    let is = state-found ts k (s .state-at .result) (place 64 (f .find .result)) (find-place (a .keys .now) k (f .find .result) 64 (search needs) (f .find .ensures)) (s .state-at .ensures) in
+    let is = state-found ts (a .k) (s .state-at .result) (place 64 (f .find .result)) (find-place (a .keys .now) (a .k) (f .find .result) 64 (search needs) (f .find .ensures)) (s .state-at .ensures) in
     let here = i .before .asker .ensures .1 (i .if1 .left) in
-    on-tokens (a .limits) m _ cs _ new (a .p) (token-request (a .number) (a .first) (a .second) (a .third)) _ _ (c .before .before .inquire .ensures ts is here)
-    (rw (i .before .before .chosen2 .ensures, i .before .before .before .chosen .ensures) (asked-to new _ (a .p) (a .number) (a .first) (a .second) (a .third) (c .before .before .before .before .if2 .taken)))
+    on-tokens (a .limits) m _ cs _ new (a .p) (token-request (a .number) (a .u) (a .k) (a .more)) _ _ (c .before .before .inquire .ensures ts is here)
+    (asked-to new _ (a .p) (a .number) (a .u) (a .k) (a .more) (c .before .before .before .before .if2 .taken))
 
 carry-requires : tie.Need-carry-requires
 carry-requires c κs = let f = c .before .before .before .before .before .before .before .before .before .before .before in
-    find-place (f .before .before .before .before .before .before .before .before .args .keys .now) (f .before .before .before .before .before .chosen2 .result) (f .find .result) 64 (search needs) (f .find .ensures)
+    let a = f .before .before .before .before .before .before .args in
+    find-place (a .keys .now) (a .k) (f .find .result) 64 (search needs) (f .find .ensures)
 
 returns-3 : tie.Need-returns-3
 unfolding tokens-full
@@ -41,20 +41,17 @@ returns-3 c = λ m cs new. let e = c .before .before .before .before .before .be
     let s = e .before in
     let f = s .before .before .before in
     let i = f .before .before .before in
-    let a = i .before .before .before .before .before .args in
+    let a = i .before .before .before .args in
     let ts = tokens-of (a .keys .now) (a .modes .now) (a .values .now) in
-    let k = i .before .before .chosen2 .result in
-    let is = state-found ts k (s .state-at .result) (place 64 (f .find .result)) (find-place (a .keys .now) k (f .find .result) 64 (search needs) (f .find .ensures)) (s .state-at .ensures) in
+    let is = state-found ts (a .k) (s .state-at .result) (place 64 (f .find .result)) (find-place (a .keys .now) (a .k) (f .find .result) 64 (search needs) (f .find .ensures)) (s .state-at .ensures) in
     let here = i .before .asker .ensures .1 (i .if1 .left) in
-    on-tokens (a .limits) m _ cs _ new (a .p) (token-request (a .number) (a .first) (a .second) (a .third)) _ _ (c .before .before .carry .ensures _ (c .before .before .before .before .before .before .before .decide .ensures ts is here))
-    (rw (not-asked-to (a .number) (a .first) (a .second) (a .third) (e .if2 .left), i .before .before .chosen2 .ensures, i .before .before .before .chosen .ensures) (c .before .before .before .before .before .before .before .before .before .ask-of .ensures (a .second) new _ (a .p)))
+    on-tokens (a .limits) m _ cs _ new (a .p) (token-request (a .number) (a .u) (a .k) (a .more)) _ _ (c .before .before .carry .ensures _ (c .before .before .before .before .before .before .before .decide .ensures ts is here))
+    (rw (not-asked-to (a .number) (a .u) (a .k) (a .more) (e .if2 .left)) (c .before .before .before .before .before .before .before .before .before .ask-of .ensures (a .u) (a .k) new _ (a .p)))
 
 pub request-spec : {M : Type 1} → statement M
 request-spec =
     tie.close
     (tie.spec
-    (λ c κs. search needs)
-    (λ c κs. search needs)
     (λ c κs. search needs)
     returns
     (λ c κs. search needs)
