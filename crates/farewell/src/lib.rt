@@ -38,10 +38,8 @@ fn put_first(out: &mut [u8], live: u16, reason: u8, list: &[u16; 64], count: usi
     ensures { λ r. ⌜ (Puts (now (out .entry)) 0 (recordsOf (parting live reason (take count (now (list .entry))))) (now (out .exit)) r) × (r ≤ 2160) ⌝ }
 {
     let all = &list[..];
-    if count < all.len() {
-        return put_parting(out, live, reason, &all[..count]);
-    }
-    put_parting(out, live, reason, all)
+    let n = columns::at_most(count, all.len());
+    put_parting(out, live, reason, &all[..n])
 }
 
 // The kind of channel c.
@@ -82,7 +80,7 @@ fn put_ended(
                 let held = tables::users::hosts(names, homes, masks::with_seat(guests, g));
                 let told = masks::common_links(held, live);
                 let m = compose::disband_indication(c);
-                return records::tell(out, at, told, &m);
+                return records::tell_three(out, at, told, &m);
             }
             at
         }

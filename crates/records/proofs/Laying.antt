@@ -4,7 +4,7 @@ use mathlib.Core.Bool.{Bool, true, false}
 use mathlib.Core.List.{List, [], _∷_, _++_, append-nil, append-assoc}
 use Prim.Native.Nat.{ℕ, zero, suc, _+_, _-_, _*_, _≤_, _<_, min}
 use native.Mathlib.Nat.{add-zero, add-suc, suc-add, zero-add, add-assoc, suc-min-suc, min-zero, zero-min}
-use native.Mathlib.Numerals.{add-one}
+use native.Mathlib.Numerals.{add-one, towards-suc}
 use native.Mathlib.Omega.{arith}
 use borrow.Author.Tests.{le-leb, leb-true}
 use lib.Dec.{leb}
@@ -160,3 +160,20 @@ ids-length low (x ∷ xs) = omega (arith, ids-length low xs)
 pub framed-length : (m : List ℕ) (q : ℕ) → length (framed m q) ≡ length m + 4
 unfolding framed
 framed-length m q = omega arith
+
+-- ---- a message of three octets: the octets of its record, stored one by one
+three : (m : List ℕ) → length m ≡ 3 → getD m 0 0 ∷ getD m 1 0 ∷ getD m 2 0 ∷ [] ≡ m
+three [] h = absurd (omega arith)
+three (a ∷ []) h = absurd (omega arith)
+three (a ∷ b ∷ []) h = absurd (omega arith)
+three (a ∷ b ∷ c ∷ []) h = refl
+three (a ∷ b ∷ c ∷ d ∷ m) h = absurd (omega arith)
+
+put-seven : (s : List ℕ) (at q a b c : ℕ)
+    → Puts s at (framed (a ∷ b ∷ c ∷ []) q) (set (set (set (set (set (set (set s at 0) (at + 1) 5) (at + 2) 1) (at + 3) q) (at + 4) a) (at + 5) b) (at + 6) c) (at + 7)
+unfolding framed
+put-seven s at q a b c = record { laid = simp towards-suc; next = refl }
+
+pub put-three : (s : List ℕ) (at q : ℕ) (m : List ℕ) {n : ℕ} → length m ≡ 3 → n ≡ at + 7
+    → Puts s at (framed m q) (set (set (set (set (set (set (set s at 0) (at + 1) 5) (at + 2) 1) (at + 3) q) (at + 4) (getD m 0 0)) (at + 5) (getD m 1 0)) (at + 6) (getD m 2 0)) n
+put-three s at q m h e = rw (e, ← three m h) (put-seven s at q (getD m 0 0) (getD m 1 0) (getD m 2 0))

@@ -10,12 +10,12 @@ use lib.Dec.{ltb}
 use lib.ListN.{length, length-append}
 use borrow.Author.Tests.{ltb-true, ltb-false}
 use Rattle.places.specs.Sets.{if_then_else_, keep, each, upto, below, has, listed, links, NextIn}
-use Rattle.places.proofs.Nexts.{next-keeps}
+use Rattle.places.proofs.Nexts.{next-behind, next-keeps}
 use Rattle.messages.specs.Limits.{message-limit}
 use Rattle.messages.specs.Named.{Message}
 use Rattle.records.specs.Records.{Sent, to, tell, wire, framed, octets, records}
 use Rattle.records.specs.Out.{Puts, allowed, guarded, told-to, told}
-use Rattle.records.proofs.Laying.{framed-length, guarded-in, guarded-all, guarded-none, allowed-parts, put-none, put-then}
+use Rattle.records.proofs.Laying.{framed-length, guarded-in, guarded-all, guarded-none, allowed-parts, put-none, put-then, Onward, onward-start, onward-step, onward-end}
 
 -- k, k + 1, .. k + n - 1
 unfoldable pub run : (k n : ℕ) → List ℕ
@@ -40,7 +40,7 @@ abbrev pub telling : (mask : ℕ) (m : List ℕ) (q : ℕ) → List ℕ
 telling mask m q = each (told-to mask m) (run q (16 - q))
 
 module _ (mask : ℕ) (m : List ℕ) where
-  pub telling-all : telling mask m 0 ≡ told mask m
+  telling-all : telling mask m 0 ≡ told mask m
   unfolding told
   telling-all = ap (each (told-to mask m)) (sym (below-run 16))
 
@@ -50,7 +50,7 @@ module _ (mask : ℕ) (m : List ℕ) where
       let e : 16 - q ≡ suc (16 - (q + 1)) = omega arith in
       rw (e, add-one q) refl
 
-  pub telling-end : (q : ℕ) → 16 ≤ q → telling mask m q ≡ []
+  telling-end : (q : ℕ) → 16 ≤ q → telling mask m q ≡ []
   unfolding each run
   telling-end q h =
       let e : 16 - q ≡ 0 = omega arith in
@@ -72,10 +72,10 @@ module _ (mask : ℕ) (m : List ℕ) where
       go true l = telling-next q (ltb-true q 16 l) ∙ ap (λ (os : List ℕ). os ++ telling mask m (q + 1)) (told-none q e)
       go false l = let h = ltb-false q 16 l in telling-end q h ∙ sym (telling-end (q + 1) (omega arith))
 
-  pub telling-past : {from r : ℕ} → NextIn mask from r → from ≤ 64 → telling mask m from ≡ telling mask m r
+  telling-past : {from r : ℕ} → NextIn mask from r → from ≤ 64 → telling mask m from ≡ telling mask m r
   telling-past {from} x l = next-keeps x l (λ (k : ℕ). telling mask m from ≡ telling mask m k) (λ k a e p. p ∙ telling-skip k e) refl
 
-  pub telling-on : (q : ℕ) → q < 16 → has mask q ≡ true → {r : ℕ} → NextIn mask (q + 1) r → telling mask m q ≡ framed m q ++ telling mask m r
+  telling-on : (q : ℕ) → q < 16 → has mask q ≡ true → {r : ℕ} → NextIn mask (q + 1) r → telling mask m q ≡ framed m q ++ telling mask m r
   telling-on q h e x = telling-next q h ∙ ap₂ (λ (os ps : List ℕ). os ++ ps) (told-one q e) (telling-past x (omega arith))
 
   told-most : (q : ℕ) → length (told-to mask m q) ≤ length m + 4
@@ -84,6 +84,32 @@ module _ (mask : ℕ) (m : List ℕ) where
       go : (b : Bool) → has mask q ≡ b → length (told-to mask m q) ≤ length m + 4
       go true e = omega (arith, ap length (told-one q e), framed-length m q)
       go false e = omega (arith, ap length (told-none q e))
+
+-- the loop has come to connection q, of the mask or behind it, and to place `at`
+pub record Told (mask : ℕ) (m s₀ : List ℕ) (from : ℕ) (s : List ℕ) (at q : ℕ) : Type 0 where
+  pub here : q < 64 → has mask q ≡ true
+  pub near : at ≤ from + q * 1028
+  pub onward : Onward s₀ from (told mask m) s at (telling mask m q)
+
+module _ (mask : ℕ) (m : List ℕ) {s₀ : List ℕ} {from : ℕ} where
+  pub told-start : {q : ℕ} → NextIn mask 0 q → Told mask m s₀ from s₀ from q
+  told-start x = record {
+    here = λ h. x .here h .1;
+    near = omega arith;
+    onward = rw (← telling-past mask m x (omega arith), telling-all mask m) (onward-start _ _ _);
+  }
+
+  -- a turn: the record for q is put, however it is laid, and r is the next
+  pub told-turn : {s : List ℕ} {at q : ℕ} {t : List ℕ} {n r : ℕ} → length m ≤ message-limit → q < 16
+      → Told mask m s₀ from s at q → Puts s at (framed m q) t n → NextIn mask (q + 1) r → Told mask m s₀ from t n r
+  told-turn {q = q} l h w p x = record {
+    here = λ h. x .here h .1;
+    near = omega (arith, w .near, p .next, framed-length m q, next-behind x (omega arith));
+    onward = onward-step _ _ (w .onward) (telling-on mask m q h (w .here (omega arith)) x) p;
+  }
+
+  pub told-end : {s : List ℕ} {at q : ℕ} → 16 ≤ q → Told mask m s₀ from s at q → Puts s₀ from (told mask m) s at
+  told-end {q = q} h w = onward-end (w .onward) (telling-end mask m q h)
 
 -- ---- the records of a list
 pub records-append : (rs ts : List Sent) → records (rs ++ ts) ≡ records rs ++ records ts

@@ -176,3 +176,47 @@ pub fn tell(out: &mut [u8], at: usize, mask: u16, m: &[u8]) -> usize
     }
     at
 }
+
+// The record of a message of three octets: where there is room for its seven octets, they are stored together.
+fn lay_three(out: &mut [u8], at: usize, q: u8, m: &[u8; 3]) -> usize
+    requires { ⌜ at ≤ 100000 ⌝ }
+    ensures { λ r. ⌜ Puts (now (out .entry)) at (framed (now (m .entry)) q) (now (out .exit)) r ⌝ }
+{
+    let end = at + m[..].len() + 4;
+    if end <= out.len() {
+        out[at] = 0;
+        out[at + 1] = 5;
+        out[at + 2] = 1;
+        out[at + 3] = q;
+        out[at + 4] = m[0];
+        out[at + 5] = m[1];
+        out[at + 6] = m[2];
+        return end;
+    }
+    lay_record(out, at, q, m)
+}
+
+// A message of three octets to each connection of a mask, ascending.
+fn tell_threes(out: &mut [u8], from: usize, mask: u16, m: &[u8; 3]) -> usize
+    requires { ⌜ (from ≤ 65535) × (length (now m) ≤ message-limit) ⌝ }
+    ensures { λ r. ⌜ Puts (now (out .entry)) from (told mask (now (m .entry))) (now (out .exit)) r ⌝ }
+{
+    let all = mask as u64;
+    let mut at = from;
+    let mut link = masks::next_in(all, 0);
+    while link < 16 {
+        at = lay_three(out, at, link as u8, m);
+        link = masks::next_in(all, link + 1);
+    }
+    at
+}
+
+// `tell` for a message of three octets.
+pub fn tell_three(out: &mut [u8], at: usize, mask: u16, m: &[u8; 3]) -> usize
+    ensures { λ r. ⌜ Puts (now (out .entry)) at (guarded at (now (m .entry)) (told mask (now (m .entry)))) (now (out .exit)) r ⌝ }
+{
+    if allowed(at, m[..].len()) {
+        return tell_threes(out, at, mask, m);
+    }
+    at
+}

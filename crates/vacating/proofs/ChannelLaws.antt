@@ -60,10 +60,19 @@ module _ (us : Users) (list : List ℕ) (gone live c role chair guests marks m :
       go false true p q = fated-private p q
       go false false p q = fated-other p q
 
+-- whether the id is listed is asked of a user's channel, role 2, alone
+ends-alike : (role chair : ℕ) (a b : Bool) (gone m : ℕ) → (role ≡ 2 → a ≡ b) → ends-by role chair a gone m ≡ ends-by role chair b gone m
+unfolding ends-by
+ends-alike role chair a b gone m l = go (eqb role 2) refl
+  where
+    go : (q : Bool) → eqb role 2 ≡ q → ends-by role chair a gone m ≡ ends-by role chair b gone m
+    go true q = rw (l (eqb-true role 2 q)) refl
+    go false q = rw q refl
+
 -- ---- its place, as the code stores it
 module _ (us : Users) (list : List ℕ) (gone live j : ℕ) (ids rs cs gs ms : List ℕ) (n : getD ids j 0 ≡ 0 → ⊥)
     (a : j < length rs) (b : j < length cs) (d : j < length gs) (f : j < length ms) (m : ℕ) (e : m ≡ meet links (getD ms j 0) live)
-    (listed ends : Bool) (l : listed ≡ member (getD ids j 0) list) (t : ends ≡ ends-by (getD rs j 0) (getD cs j 0) listed gone m) where
+    (listed ends : Bool) (l : getD rs j 0 ≡ 2 → listed ≡ member (getD ids j 0) list) (t : ends ≡ ends-by (getD rs j 0) (getD cs j 0) listed gone m) where
   -- what is left: the admitted and the connections
   abbrev admitted : ℕ
   admitted = guests-left (getD rs j 0) (getD gs j 0) gone
@@ -73,7 +82,7 @@ module _ (us : Users) (list : List ℕ) (gone live j : ℕ) (ids rs cs gs ms : L
 
   here : fate-by us list gone live (getD ids j 0) (getD (channel-cells rs cs gs ms) j no-channel)
       ≡ (if ends then none else some (channel (getD rs j 0) (getD cs j 0) admitted joined))
-  here = ap (fate-by us list gone live (getD ids j 0)) (channel-at rs cs gs ms j a b d f) ∙ rw (t, l) (fated us list gone live (getD ids j 0) (getD rs j 0) (getD cs j 0) (getD gs j 0) (getD ms j 0) m e)
+  here = ap (fate-by us list gone live (getD ids j 0)) (channel-at rs cs gs ms j a b d f) ∙ rw (t, ends-alike (getD rs j 0) (getD cs j 0) listed (member (getD ids j 0) list) gone m l) (fated us list gone live (getD ids j 0) (getD rs j 0) (getD cs j 0) (getD gs j 0) (getD ms j 0) m e)
 
   stored : channel-cells rs cs (set gs j admitted) (set ms j joined) ≡ set (channel-cells rs cs gs ms) j (channel (getD rs j 0) (getD cs j 0) admitted joined)
   stored = rw (set-getD rs j 0, set-getD cs j 0) at (channel-set rs cs gs ms j (getD rs j 0) (getD cs j 0) admitted joined)

@@ -8,13 +8,17 @@ ghost use Rattle.domain.specs.Cells.{no-channel};
 ghost use Rattle.domain.specs.Tables.{users-of, hosts, channels-of, channel-cells, sweep-channels};
 ghost use Rattle.vacating.specs.Fates.{fate-by, ends-by, guests-left, marks-left};
 
-// Channel c is the user's id of one of those listed. Most ids are among the 64 that have a mark.
-fn is_listed(low: u64, list: &[u16], c: u16) -> bool
+// Channel c is the user's id of one of those listed. Most ids are among the 64 that have a mark; another is looked for only where the channel
+// is a user's, role 2, since no other ends by its id.
+fn is_listed(low: u64, list: &[u16], role: u8, c: u16) -> bool
     requires { ⌜ low ≡ marked 1000 (now list) ⌝ }
-    ensures { λ r. ⌜ r ≡ member c (now (list .entry)) ⌝ }
+    ensures { λ r. ⌜ (role ≡ 2 → r ≡ member c (now (list .entry))) ⌝ }
 {
     if (1000 < c) & (c < 1065) {
         return masks::has(low, (c - 1001) as u8);
+    }
+    if role != 2 {
+        return false;
     }
     columns::member(list, c)
 }
@@ -99,7 +103,7 @@ fn leave_place(
     }
     let role = roles[j];
     let m = masks::common_links(marks[j], live);
-    if ends(role, chairs[j], is_listed(low, list, c), gone, m) {
+    if ends(role, chairs[j], is_listed(low, list, role, c), gone, m) {
         tables::channels::end_channel(ids, roles, chairs, guests, marks, j);
         return;
     }

@@ -27,14 +27,17 @@ returns : tie.Need-returns
 returns c = let a = c .before .before .before .args in
     let w = within (a .c) (c .before .if1 .taken) in
     let here : 1001 + (a .c - 1001) ≡ a .c = omega arith in
-    c .has .ensures ∙ rw (c .before .before .before .pre, has-marked 1000 (a .list .now) (a .c - 1001) (omega arith), here) refl
+    λ _. c .has .ensures ∙ rw (c .before .before .before .pre, has-marked 1000 (a .list .now) (a .c - 1001) (omega arith), here) refl
+
+returns-2 : tie.Need-returns-2
+returns-2 c = λ e. absurd (omega arith)
 
 member-requires : tie.Need-member-requires
 member-requires c κs = search needs
 
-returns-2 : tie.Need-returns-2
-returns-2 c = search needs
+returns-3 : tie.Need-returns-3
+returns-3 c = search needs
 
 pub is-listed-spec : {M : Type 1} → statement M
 is-listed-spec =
-    tie.close (tie.spec sub-has cast-has has-requires returns member-requires returns-2)
+    tie.close (tie.spec sub-has cast-has has-requires returns returns-2 member-requires returns-3)
