@@ -227,19 +227,7 @@ fn tell_all(
     at
 }
 
-// There is room for all of it. Only a short room is tried: no more than 2,208 octets are ever said.
-fn fits(room: usize, spots: &[u8], shares: &[u8], firsts: &[u8], s: Say, list: &[u16]) -> bool
-    requires { ⌜ (length (now list) ≤ 64) × (length (now list) ≤ length (now spots)) × (16 ≤ length (now shares)) × (16 ≤ length (now firsts)) ⌝ }
-    ensures { λ r. ⌜ ((us : Users) → Housed us (now (list .entry)) (now (spots .entry)) (now (shares .entry)) (now (firsts .entry)) → (r ≡ true → length (recordsOf (own us (now (list .entry)) (says s))) ≤ room) × (r ≡ false → room < length (recordsOf (own us (now (list .entry)) (says s))))) ⌝ }
-{
-    if room < 2208 {
-        let total = tell_all(&mut [], spots, shares, firsts, s, list);
-        return total <= room;
-    }
-    true
-}
-
-// The same, where there is room for all of it.
+// The same, where there is room for all of it: 2,208 octets are enough for any. A short room is counted for in a first turn, in which nothing is put.
 fn tell_own(
     out: &mut [u8],
     spots: &[u8],
@@ -251,13 +239,21 @@ fn tell_own(
     requires { ⌜ (length (now list) ≤ 64) × (length (now list) ≤ length (now spots)) × (16 ≤ length (now shares)) × (16 ≤ length (now firsts)) ⌝ }
     ensures { λ r. ⌜ ((us : Users) → Housed us (now (list .entry)) (now (spots .entry)) (now (shares .entry)) (now (firsts .entry)) → answered {A = Unit {0}} r tt (now (out .exit)) ≡ sends 0 tt tt (own us (now (list .entry)) (says s)) (now (out .entry))) ⌝ }
 {
-    if !fits(out.len(), spots, shares, firsts, s, list) {
+    let room = out.len();
+    let mut to = records::tried(room, 2208);
+    let mut total = 0;
+    let mut again = true;
+    while again {
+        total = tell_all(&mut out[..to], spots, shares, firsts, s, list);
+        again = (to < room) & (total <= room);
+        to = room;
+    }
+    if room < total {
         return Answer {
             reply: Reply::NoRoom,
             sent: 0,
         };
     }
-    let total = tell_all(out, spots, shares, firsts, s, list);
     Answer {
         reply: Reply::Done,
         sent: total,

@@ -17,15 +17,8 @@ use domain::numbers::Reason;
 use domain::numbers::Reply;
 use leavers::Leavers;
 
-// How much of the room the records are put into at first: all of a long one, since 17,200 octets are enough for any; nothing of a short one.
-fn tried(room: usize) -> usize
-    ensures { λ r. ⌜ (r ≤ room) × (room < 17200 → r ≡ 0) × (17200 ≤ room → r ≡ room) ⌝ }
-{
-    if room < 17200 { 0 } else { room }
-}
-
-// The records of those who leave, put together where there is room for them; how many octets they take. A short room is counted for in a first
-// turn, in which nothing is put.
+// The records of those who leave, put together where there is room for them; how many octets they take: 17,200 are enough for any. A short room is
+// counted for in a first turn, in which nothing is put.
 fn say(
     out: &mut [u8],
     names: &[u16; 64],
@@ -57,7 +50,7 @@ fn say(
     let m = keys[..].len();
     let k = list[..].len();
     let room = out.len();
-    let mut to = tried(room);
+    let mut to = records::tried(room, 17200);
     let mut total = 0;
     let mut again = true;
     while again {

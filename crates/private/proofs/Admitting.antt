@@ -25,22 +25,16 @@ module _ (us : Users) (cs : Channels) (p u c : ℕ) (ids out : List ℕ) where
   abbrev Unmanaged : Type 0
   Unmanaged = (act : ℕ → ℕ → ℕ → Effect Channels) → manages us cs p u c act ≡ ignored
 
-  pub admit-unmanaged : Unmanaged → settled 1 0 cs out ≡ settle cs (admit us cs p u c ids) out
-  unfolding admit settle
-  admit-unmanaged h = rw (h _) refl
+  pub unmanaged : Unmanaged → (admits : Bool) → settled 1 0 cs out ≡ settle cs ((if admits then admit else expel) us cs p u c ids) out
+  unfolding admit expel settle
+  unmanaged h true = rw (h _) refl
+  unmanaged h false = rw (h _) refl
 
-  pub expel-unmanaged : Unmanaged → settled 1 0 cs out ≡ settle cs (expel us cs p u c ids) out
-  unfolding expel settle
-  expel-unmanaged h = rw (h _) refl
-
-  module _ (j : ℕ) (h : (act : ℕ → ℕ → ℕ → Effect Channels) → manages us cs p u c act ≡ act j (channel cs j .chair) (channel cs j .guests)) where
-    pub admit-is : changes us cs j (Admits u c) ids ≡ admit us cs p u c ids
-    unfolding changes picks changed says sieved picked admit attached-of
-    admit-is = sym (h _)
-
-    pub expel-is : changes us cs j (Expels c) ids ≡ expel us cs p u c ids
-    unfolding changes picks changed says sieved picked expel admitted-of
-    expel-is = sym (h _)
+  pub revises : (j : ℕ) → ((act : ℕ → ℕ → ℕ → Effect Channels) → manages us cs p u c act ≡ act j (channel cs j .chair) (channel cs j .guests))
+      → (admits : Bool) → changes us cs j (if admits then Admits u c else Expels c) ids ≡ (if admits then admit else expel) us cs p u c ids
+  unfolding changes picks changed says sieved picked admit attached-of expel admitted-of
+  revises j h true = sym (h _)
+  revises j h false = sym (h _)
 
 -- ---- the channel at place j changes, or nothing does
 module _ (us : Users) (cs : Channels) (j : ℕ) (say : Say) (ids out : List ℕ) (ch : Channel) (x : ch ≡ getD (cs .cells) j no-channel) (k : Pick) (y : k ≡ picks say (ch .guests))

@@ -5,12 +5,13 @@ ghost use mathlib.Core.List.{List};
 ghost use Prim.Native.Nat.{ℕ, _≤_, _<_};
 ghost use lib.Dec.{eqb};
 ghost use lib.ListN.{take};
-ghost use Rattle.places.specs.Sets.{with, seats};
+ghost use Rattle.places.specs.Sets.{if_then_else_, with, seats};
 ghost use Rattle.domain.specs.Cells.{kind};
 ghost use Rattle.domain.specs.Tables.{Channels, users-of, channels-of, channel, hosts as hostsOf, at-limit, grant};
 ghost use Rattle.domain.specs.Numbers.{replyNumber};
 ghost use Rattle.domain.specs.Effects.{Effect, ignored as ignoredBy, settle, answered};
 ghost use Rattle.domain.specs.Channels.{convene as conveneOf, owned, manages, disband as disbandOf, admit as admitOf, expel as expelOf};
+ghost use Rattle.hearing.specs.declared.Say.the-variants.{Admits, Expels};
 ghost use Rattle.private.specs.Changes.{picks, changed, changes};
 use answers::confirms;
 use domain::answer::Answer;
@@ -215,50 +216,18 @@ fn change(
     a
 }
 
-// CArq by u on p for channel c: the first `count` of the ids.
-pub fn admit(
-    names: &[u16; 64],
-    homes: &[u8; 64],
-    ids: &[u16; 128],
-    roles: &mut [u8; 128],
-    chairs: &mut [u8; 128],
-    guests: &mut [u64; 128],
-    marks: &mut [u16; 128],
-    p: u8,
-    u: u16,
-    c: u16,
-    listed: &mut [u16; 64],
-    count: usize,
-    out: &mut [u8],
-) -> Answer
-    ensures { λ r. ⌜ answered r (channels-of (now (ids .entry)) (now (roles .exit)) (now (chairs .exit)) (now (guests .exit)) (now (marks .exit))) (now (out .exit))
-        ≡ settle (channels-of (now (ids .entry)) (now (roles .entry)) (now (chairs .entry)) (now (guests .entry)) (now (marks .entry)))
-        (admitOf (users-of (now (names .entry)) (now (homes .entry))) (channels-of (now (ids .entry)) (now (roles .entry)) (now (chairs .entry)) (now (guests .entry)) (now (marks .entry))) p u c
-        (take count (now (listed .entry))))
-        (now (out .entry)) ⌝ }
+// What is said where users are admitted, and where they are expelled.
+fn said(admits: bool, u: u16, c: u16) -> Say
+    ensures { λ r. ⌜ r ≡ (if admits then Admits u c else Expels c) ⌝ }
 {
-    let j = managed(names, homes, ids, roles, chairs, guests, marks, p, u, c);
-    if 128 <= j {
-        return answers::ignored();
+    if admits {
+        return Say::Admits(u, c);
     }
-    let s = Say::Admits(u, c);
-    change(
-        names,
-        homes,
-        roles,
-        chairs,
-        guests,
-        marks,
-        j,
-        s,
-        listed,
-        count,
-        out,
-    )
+    Say::Expels(c)
 }
 
-// CErq by u on p for channel c: the first `count` of the ids.
-pub fn expel(
+// CArq or CErq by u on p for channel c: the first `count` of the ids are admitted, or expelled. One way for both, so that little stands on the stack.
+pub fn revise(
     names: &[u16; 64],
     homes: &[u8; 64],
     ids: &[u16; 128],
@@ -267,6 +236,7 @@ pub fn expel(
     guests: &mut [u64; 128],
     marks: &mut [u16; 128],
     p: u8,
+    admits: bool,
     u: u16,
     c: u16,
     listed: &mut [u16; 64],
@@ -275,7 +245,7 @@ pub fn expel(
 ) -> Answer
     ensures { λ r. ⌜ answered r (channels-of (now (ids .entry)) (now (roles .exit)) (now (chairs .exit)) (now (guests .exit)) (now (marks .exit))) (now (out .exit))
         ≡ settle (channels-of (now (ids .entry)) (now (roles .entry)) (now (chairs .entry)) (now (guests .entry)) (now (marks .entry)))
-        (expelOf (users-of (now (names .entry)) (now (homes .entry))) (channels-of (now (ids .entry)) (now (roles .entry)) (now (chairs .entry)) (now (guests .entry)) (now (marks .entry))) p u c
+        ((if admits then admitOf else expelOf) (users-of (now (names .entry)) (now (homes .entry))) (channels-of (now (ids .entry)) (now (roles .entry)) (now (chairs .entry)) (now (guests .entry)) (now (marks .entry))) p u c
         (take count (now (listed .entry))))
         (now (out .entry)) ⌝ }
 {
@@ -283,7 +253,7 @@ pub fn expel(
     if 128 <= j {
         return answers::ignored();
     }
-    let s = Say::Expels(c);
+    let s = said(admits, u, c);
     change(
         names,
         homes,

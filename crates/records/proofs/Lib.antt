@@ -1,3 +1,4 @@
 pub mod Laying
+pub mod Saying
 pub mod Telling
 pub mod Wire

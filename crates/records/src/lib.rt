@@ -2,12 +2,19 @@
 pub mod lists;
 
 ghost use mathlib.Core.Path.{_≡_};
-ghost use Prim.Native.Nat.{ℕ, _-_, _≤_, min};
+ghost use Prim.Native.Nat.{ℕ, _-_, _≤_, _<_, min};
 ghost use lib.ListN.{length, set};
 ghost use Rattle.messages.specs.Limits.{message-limit};
 ghost use Rattle.records.specs.Records.{two, framed};
 ghost use Rattle.records.specs.Out.{Puts, allowed as allowedAt, guarded, each-two, told-to, told};
 use messages::MESSAGE_LIMIT;
+
+// How much of the room records are put into at first, where `most` octets are enough for any of them: all of a long one; nothing of a short one.
+pub fn tried(room: usize, most: usize) -> usize
+    ensures { λ r. ⌜ (r ≤ room) × (room < most → r ≡ 0) × (most ≤ room → r ≡ room) ⌝ }
+{
+    if room < most { 0 } else { room }
+}
 
 // An octet, where there is room for it.
 fn put(s: &mut [u8], at: usize, b: u8)

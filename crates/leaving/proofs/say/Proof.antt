@@ -7,11 +7,11 @@ use lib.ListN.{length, take, length-take}
 use lib.Seq.{length-take-le}
 use borrow.Author.Needs.{needs}
 use Rattle.records.specs.Records.{records}
+use Rattle.records.proofs.Saying.{Saying, runs, fewer, run-size, say-start, say-turn}
 use Rattle.domain.specs.declared.Limits.{Limits}
 use Rattle.domain.specs.Tables.{domain-of}
 use Rattle.domain.specs.Leaving.{farewell}
 use Rattle.farewell.proofs.Parts.{farewell-length}
-use Rattle.leaving.proofs.Saying.{Saying, runs, fewer, run-size, say-start, say-turn}
 use Rattle.leaving.proofs.SettleLaws.{no-limits}
 use Rattle.leaving.proofs.say.Statement.{statement}
 use Rattle.leaving.proofs.say.Tie as tie
@@ -33,7 +33,7 @@ loop-holds c =
     let few : length (take (a .count) (a .list .now)) ≤ 64 = omega (arith, length-take (a .count) (a .list .now), min-le-left (a .count) (length (a .list .now))) in (
       c .tried .ensures .0,
       search needs,
-      λ l links. say-start (a .out .now) _ (c .tried .result) (c .tried .ensures)
+      λ l links. say-start 17200 (a .out .now) _ (c .tried .result) (c .tried .ensures)
           (farewell-length (domain-of l links (a .names .now) (a .homes .now) (a .ids .now) (a .roles .now) (a .chairs .now) (a .guests .now) (a .marks .now) (a .keys .now) (a .modes .now) (a .values .now)) (a .gone) (a .live) (a .reason) (take (a .count) (a .list .now)) (search needs) few (search needs) (search needs)),
     )
 
@@ -53,7 +53,7 @@ loop-again : tie.Need-loop-again Inv-loop μ-loop
 loop-again c =
     let a = c .before .before .before .before .before .before .before .before .before .before .before .args in
     let w = c .before .before .before .before .before .loop in
-    let size = run-size _ _ (w .out) _ (w .to) (w .inv .0) (c .before .before .farewell .ensures no-limits 0) ∙ w .inv .1 in
+    let size = run-size (c .before .before .farewell .last .0) (w .out) (w .to) (w .inv .0) (c .before .before .farewell .kept .0) ∙ w .inv .1 in
     (omega arith, size, λ l links. say-turn (a .out .now) _ _ _ (w .inv .2 l links) (c .before .before .before .before .loop-test .taken) (c .before .before .farewell .ensures l links))
 
 same-length : tie.Need-same-length Inv-loop μ-loop

@@ -43,16 +43,16 @@ fewer again fits to room e h = rw e (go (ltb to room) refl fits)
     go false q c = omega arith
 
 -- the room stays as long as it is
-pub run-size : (os part t : List ℕ) (n to : ℕ) → to ≤ length t → Puts (take to t) 0 os part n → length (part ++ drop to t) ≡ length t
-run-size os part t n to h p = omega (arith, length-append part (drop to t), put-size p, length-take-le to t h, length-drop to t)
+pub run-size : (part t : List ℕ) (to : ℕ) → to ≤ length t → length part ≡ length (take to t) → length (part ++ drop to t) ≡ length t
+run-size part t to h e = omega (arith, length-append part (drop to t), length-take-le to t h, length-drop to t)
 
 -- ---- before the first run
-pub say-start : (s os : List ℕ) (to : ℕ) → (to ≤ length s) × (length s < 17200 → to ≡ 0) × (17200 ≤ length s → to ≡ length s) → length os ≤ 17200 → Saying s os s to 0 true
-say-start s os to h few = record { still = λ e. refl; enough = λ e z. go (leb 17200 (length s)) refl z; said = λ e. absurd (true≢false e) }
+pub say-start : (most : ℕ) (s os : List ℕ) (to : ℕ) → (to ≤ length s) × (length s < most → to ≡ 0) × (most ≤ length s → to ≡ length s) → length os ≤ most → Saying s os s to 0 true
+say-start most s os to h few = record { still = λ e. refl; enough = λ e z. go (leb most (length s)) refl z; said = λ e. absurd (true≢false e) }
   where
-    go : (b : Bool) → leb 17200 (length s) ≡ b → (to ≡ 0 → ⊥) → (to ≡ length s) × (length os ≤ length s)
-    go true q z = (h .2 (leb-true 17200 (length s) q), omega (arith, leb-true 17200 (length s) q))
-    go false q z = absurd (z (h .1 (leb-false 17200 (length s) q)))
+    go : (b : Bool) → leb most (length s) ≡ b → (to ≡ 0 → ⊥) → (to ≡ length s) × (length os ≤ length s)
+    go true q z = (h .2 (leb-true most (length s) q), omega (arith, leb-true most (length s) q))
+    go false q z = absurd (z (h .1 (leb-false most (length s) q)))
 
 -- ---- one run
 -- nothing fits into no room but nothing
