@@ -1,14 +1,23 @@
 -- What is confirmed to the asker itself: every request but an answer, and an offer only where it is not passed on.
 use Prim.Native.Nat.{ℕ}
 use mathlib.Core.Bool.{Bool}
+use mathlib.Core.List.{List}
 use Rattle.places.specs.Sets.{if_then_else_}
+use Rattle.places.specs.Places.{load}
 use Rattle.messages.specs.Named.{no-such-user, token-not-possessed}
 use Rattle.compose.specs.declared.Confirm.{Confirm}
 use Rattle.compose.specs.declared.Confirm.the-variants as confirm
 use Rattle.domain.specs.declared.token.Holding.{Holding}
+use Rattle.domain.specs.Cells.{hold, no-token}
+use Rattle.domain.specs.Tables.{token-cells}
+use Rattle.tables.specs.Numbered.{place}
 use Rattle.domain.specs.Tokens.{Turned, fails, grab, inhibit, release, grabbed-by}
 use Rattle.deeds.specs.declared.Ask.{Ask}
 use Rattle.deeds.specs.declared.Ask.the-variants.{Grab, Inhibit, Release, Offer, Answer}
+
+-- the state of the token at a place; where there is no such place it is free
+abbrev pub standing : (modes values : List ℕ) (at : ℕ) → Holding
+standing modes values at = hold (load (token-cells modes values) (place 64 at) no-token)
 
 -- why an offer by the user at place i is not passed on
 abbrev pub refusal : (h : Holding) (i : ℕ) → ℕ

@@ -14,7 +14,7 @@ ghost use Rattle.domain.specs.Tables.{Tokens, users-of, attached, at-limit, is-
 ghost use Rattle.domain.specs.Passing.{turn as turnOf, answer as answerOf, informed};
 ghost use Rattle.domain.specs.Effects.{done};
 ghost use Rattle.deeds.specs.Deeds.{Does, asked};
-ghost use Rattle.deeds.specs.Attempts.{refusal, attempted, kindOf};
+ghost use Rattle.deeds.specs.Attempts.{refusal, standing, attempted, kindOf};
 use compose::Confirm;
 use domain::numbers::Result;
 use domain::token::Holding;
@@ -136,9 +136,10 @@ fn given(homes: &[u8; 64], u: u16, i: u8, k: u16, j: u8, recipient: u16) -> Deed
     }
 }
 
-// What a request that is confirmed to its asker makes of a token, and the confirm's kind.
+// What a request that is confirmed to its asker makes of a token, the state that it was in, and the confirm's kind.
 struct Outcome {
     kind: Confirm,
+    before: Holding,
     turned: Turned,
 }
 
@@ -152,27 +153,53 @@ fn offer_fails(h: Holding, i: u8) -> Result
     Result::TokenNotPossessed
 }
 
-// Any request but an answer, by the user at place i, for a token in state h; an offer is one that is not passed on.
-fn attempt(keys: &[u16; 64], limit: u8, h: Holding, i: u8, ask: Ask) -> Outcome
-    ensures { λ r. ⌜ (r .kind ≡ kindOf ask) × (turnedOf (r .turned) ≡ attempted ask (at-limit limit (now (keys .entry))) h i) ⌝ }
+// Any request but an answer, by the user at place i, for the token at a place or nowhere; an offer is one that is not passed on. The state is made
+// out behind the request: so the two are told apart by one jump each.
+fn attempt(
+    keys: &[u16; 64],
+    modes: &[u8; 64],
+    values: &[u64; 64],
+    at: usize,
+    limit: u8,
+    i: u8,
+    ask: Ask,
+) -> Outcome
+    ensures { λ r. ⌜ (r .kind ≡ kindOf ask) × (r .before ≡ standing (now (modes .entry)) (now (values .entry)) at)
+        × (turnedOf (r .turned) ≡ attempted ask (at-limit limit (now (keys .entry))) (r .before) i) ⌝ }
 {
     match ask {
-        Ask::Grab => Outcome {
-            kind: Confirm::Grab,
-            turned: states::token::grab(full_for(h, limit, keys), h, i),
-        },
-        Ask::Inhibit => Outcome {
-            kind: Confirm::Inhibit,
-            turned: states::token::inhibit(full_for(h, limit, keys), h, i),
-        },
-        Ask::Release => Outcome {
-            kind: Confirm::Release,
-            turned: states::token::release(h, i),
-        },
-        _ => Outcome {
-            kind: Confirm::Give,
-            turned: Turned::Fails(offer_fails(h, i)),
-        },
+        Ask::Grab => {
+            let h = tables::tokens::state_at(modes, values, at);
+            Outcome {
+                kind: Confirm::Grab,
+                before: h,
+                turned: states::token::grab(full_for(h, limit, keys), h, i),
+            }
+        }
+        Ask::Inhibit => {
+            let h = tables::tokens::state_at(modes, values, at);
+            Outcome {
+                kind: Confirm::Inhibit,
+                before: h,
+                turned: states::token::inhibit(full_for(h, limit, keys), h, i),
+            }
+        }
+        Ask::Release => {
+            let h = tables::tokens::state_at(modes, values, at);
+            Outcome {
+                kind: Confirm::Release,
+                before: h,
+                turned: states::token::release(h, i),
+            }
+        }
+        _ => {
+            let h = tables::tokens::state_at(modes, values, at);
+            Outcome {
+                kind: Confirm::Give,
+                before: h,
+                turned: Turned::Fails(offer_fails(h, i)),
+            }
+        }
     }
 }
 
@@ -225,33 +252,38 @@ fn answered(
     quiet(Fate::Ignored)
 }
 
-// What comes of a request by u on p, at place i, for token k in state h.
+// What comes of a request by u on p, at place i, for token k, which stands at a place or nowhere.
 pub fn decide(
     names: &[u16; 64],
     homes: &[u8; 64],
     keys: &[u16; 64],
+    modes: &[u8; 64],
+    values: &[u64; 64],
     limit: u8,
     p: u8,
     u: u16,
     i: u8,
     k: u16,
-    h: Holding,
+    at: usize,
     ask: Ask,
 ) -> Deed
-    ensures { λ r. ⌜ ((ts : Tokens) → h ≡ state ts k → attached (users-of (now (names .entry)) (now (homes .entry))) p u ≡ At i
+    ensures { λ r. ⌜ ((ts : Tokens) → standing (now (modes .entry)) (now (values .entry)) at ≡ state ts k → attached (users-of (now (names .entry)) (now (homes .entry))) p u ≡ At i
         → Does ts k r (asked ask (at-limit limit (now (keys .entry))) (users-of (now (names .entry)) (now (homes .entry))) ts p u k)) ⌝ }
 {
     if let Ask::Answer(result) = ask {
+        let h = tables::tokens::state_at(modes, values, at);
         return answered(names, homes, p, u, i, k, h, result);
     }
     if let Ask::Offer(recipient) = ask {
-        let at = recipient_at(names, h, i, recipient);
-        if at < 64 {
-            return given(homes, u, i, k, at as u8, recipient);
+        let h = tables::tokens::state_at(modes, values, at);
+        let j = recipient_at(names, h, i, recipient);
+        if j < 64 {
+            return given(homes, u, i, k, j as u8, recipient);
         }
     }
-    let t = attempt(keys, limit, h, i, ask);
+    let t = attempt(keys, modes, values, at, limit, i, ask);
     let kind = t.kind;
+    let before = t.before;
     let what = t.turned;
-    turned(kind, p, u, i, k, h, what)
+    turned(kind, p, u, i, k, before, what)
 }

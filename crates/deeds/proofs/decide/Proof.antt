@@ -1,5 +1,7 @@
-use mathlib.Core.Path.{sym}
+use mathlib.Core.Path.{sym, ap, _∙_}
 use mathlib.Core.Logic.{⊎-elim}
+use Rattle.domain.specs.declared.token.Holding.{Holding}
+use Rattle.domain.specs.Tokens.{grabbed-by}
 use Rattle.domain.specs.Tables.{users-of, link, at-limit}
 use Rattle.deeds.proofs.Deciding.{does-as, offer-given}
 use Rattle.deeds.proofs.Attempting.{confirms-own, confirms-offer}
@@ -10,14 +12,20 @@ use Rattle.deeds.proofs.decide.Tie as tie
 enum-known-ask : tie.Need-enum-known-ask
 enum-known-ask c = search needs
 
+state-at-requires : tie.Need-state-at-requires
+state-at-requires c κs = search needs
+
 answered-requires : tie.Need-answered-requires
 answered-requires c κs = search needs
 
 returns : tie.Need-returns
-returns c = λ ts is here. rw (c .before .before .ask .given .1) (c .answered .ensures ts is here)
+returns c = λ ts is here. rw (c .before .before .before .ask .given .1) (c .answered .ensures ts (c .before .state-at .ensures ∙ is) here)
 
 enum-known-ask-2 : tie.Need-enum-known-ask-2
 enum-known-ask-2 c = search needs
+
+state-at-requires-2 : tie.Need-state-at-requires-2
+state-at-requires-2 c κs = search needs
 
 recipient-at-requires : tie.Need-recipient-at-requires
 recipient-at-requires c κs = search needs
@@ -31,13 +39,14 @@ given-requires c κs = search needs
 returns-2 : tie.Need-returns-2
 unfolding link
 returns-2 c =
-    λ ts is here. let a = c .before .before .before .before .before .before .before .args in
+    λ ts is here. let a = c .before .before .before .before .before .before .before .before .args in
     let at = c .before .before .recipient-at in
-    let r = c .before .before .before .before .ask2 .given .0 .0 in
+    let h = c .before .before .before .state-at2 in
+    let r = c .before .before .before .before .before .ask2 .given .0 .0 in
     let found = at .ensures .0 (c .before .if1 .taken) in
-    rw (c .before .before .before .before .ask2 .given .1)
+    rw (c .before .before .before .before .before .ask2 .given .1)
     (does-as ts (a .k) (c .given .result) (c .given .ensures ts)
-    (sym (offer-given (users-of (a .names .now) (a .homes .now)) ts (a .p) (a .u) (a .i) (a .k) r here is (found .0) (at .result) (found .1))))
+    (sym (offer-given (users-of (a .names .now) (a .homes .now)) ts (a .p) (a .u) (a .i) (a .k) r here (h .ensures ∙ is) (found .0) (at .result) (found .1))))
 
 attempt-requires : tie.Need-attempt-requires
 attempt-requires c κs = search needs
@@ -52,10 +61,12 @@ returns-3 c =
     let full = at-limit (a .limit) (a .keys .now) in
     let m = c .before .before .match2 in
     let t = c .before .attempt in
-    does-as ts (a .k) (c .turned .result) (c .turned .ensures ts is)
+    let e = t .ensures in
+    let was = e .1 ∙ is in
+    does-as ts (a .k) (c .turned .result) (c .turned .ensures ts was)
     (⊎-elim
-    (λ w. confirms-offer full us ts (a .p) (a .u) (a .i) (a .k) here (a .h) is (m .ask) (t .ensures .0) (t .ensures .1) (a .ask) (w .1 .given .0 .0) (w .5) (w .1 .given .1) (w .3 .ensures .1 (w .4 .left)))
-    (λ w. confirms-own full us ts (a .p) (a .u) (a .i) (a .k) here (a .h) is (m .ask) (t .ensures .0) (t .ensures .1) (a .ask) (w .1) (c .before .before .before .match .keys2) (w .0 .keys2))
+    (λ w. confirms-offer full us ts (a .p) (a .u) (a .i) (a .k) here (t .result .before) was (m .ask) (e .0) (e .2) (a .ask) (w .1 .given .0 .0) (w .6) (w .1 .given .1) (λ g. w .4 .ensures .1 (w .5 .left) (ap (λ (h : Holding). grabbed-by h (a .i)) (w .3 .ensures ∙ sym (e .1)) ∙ g)))
+    (λ w. confirms-own full us ts (a .p) (a .u) (a .i) (a .k) here (t .result .before) was (m .ask) (e .0) (e .2) (a .ask) (w .1) (c .before .before .before .match .keys2) (w .0 .keys2))
     (m .came))
 
 pub decide-spec : {M : Type 1} → statement M
@@ -63,9 +74,11 @@ decide-spec =
     tie.close
     (tie.spec
     enum-known-ask
+    state-at-requires
     answered-requires
     returns
     enum-known-ask-2
+    state-at-requires-2
     recipient-at-requires
     cast-given
     given-requires
