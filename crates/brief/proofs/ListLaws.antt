@@ -1,6 +1,6 @@
 -- What is read straight into a list that is lent: ids stored one after the other, and the message that they end. Assumes nothing.
 use mathlib.Core.Path.{_≡_, refl, sym, ap, _∙_}
-use mathlib.Core.Bool.{Bool, true, false}
+use mathlib.Core.Bool.{true, false}
 use mathlib.Core.List.{List, [], _∷_, _++_}
 use Prim.Native.Nat.{ℕ, zero, suc, _+_, _*_, _/_, _%_, _<_, _≤_}
 use native.Mathlib.Numerals.{add-one}
@@ -13,7 +13,7 @@ use Rattle.octets.specs.Octets.{got, follow, give, need, Item, anId, readItem, 
 use Rattle.octets.proofs.OctetLaws.{followed, go-on}
 use Rattle.octets.proofs.Reading.{length-one}
 use Rattle.messages.specs.Limits.{list-limit, message-limit}
-use Rattle.messages.specs.Messages.{Field, Row, plain, row, is-served}
+use Rattle.messages.specs.Messages.{Field, plain, row}
 use Rattle.messages.specs.Columns.{countAt}
 use Rattle.reader.specs.Held.{padded, isString, decoded}
 use Rattle.brief.specs.declared.lists.Head.{Head}

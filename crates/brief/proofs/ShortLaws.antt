@@ -1,5 +1,5 @@
 -- What is read the short way: ids behind the first octet, a result or a reason before them, a list behind them. Assumes nothing.
-use mathlib.Core.Path.{_≡_, refl, sym, ap, _∙_}
+use mathlib.Core.Path.{_≡_, refl, ap, _∙_}
 use mathlib.Core.Bool.{Bool, true, false, cond}
 use mathlib.Core.List.{List, [], _∷_}
 use Prim.Native.Nat.{ℕ, _+_, _*_, _/_, _%_, _^_, _<_, _≤_}
@@ -14,7 +14,7 @@ use Rattle.octets.proofs.Reading.{octet-at}
 use Rattle.messages.specs.Limits.{message-limit}
 use Rattle.messages.specs.Messages.{Field, item, result, reason, kind, Row, plain, row, is-served}
 use Rattle.messages.specs.Columns.{countAt}
-use Rattle.messages.specs.Codec.{takeField, takeFields, takeRow, Msg, readMsg, ok, ending, decode}
+use Rattle.messages.specs.Codec.{takeField, takeFields, takeRow, readMsg, ok, ending, decode}
 use Rattle.brief.specs.declared.Short.{Short}
 use Rattle.brief.specs.declared.tokens.Wish.{Wish}
 use Rattle.reader.specs.Held.{padded, isString, decoded}

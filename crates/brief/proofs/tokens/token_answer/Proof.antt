@@ -1,5 +1,5 @@
 use mathlib.Core.Bool.{true}
-use mathlib.Core.Path.{refl, sym}
+use mathlib.Core.Path.{refl}
 use native.Mathlib.Omega.{arith}
 use Rattle.messages.specs.Messages.{row, entry, is-served}
 use Rattle.messages.specs.Columns.{countAt, tailAt, packedAt, packed}

@@ -1,8 +1,7 @@
 use mathlib.Core.Bool.{false}
 use mathlib.Core.Logic.{⊎-elim}
 use lib.ListN.{getD}
-use mathlib.Core.Path.{ap, subst}
-use mathlib.Core.Path.{refl, sym}
+use mathlib.Core.Path.{refl, ap, subst}
 use native.Mathlib.Omega.{arith}
 use Rattle.messages.specs.Messages.{row, entry, is-served}
 use Rattle.messages.specs.Columns.{countAt, tailAt, packedAt, packed}
