@@ -88,16 +88,15 @@ module _ (new : ℕ) (full : Bool) (cs : Channels) (p u c : ℕ) where
     unfolding join-new
     new-full h f e = rw (le-ltb 1000 c h, f) (did-nothing _ _ e cs)
 
-  module _ (h : c ≤ 1000) (f : full ≡ false) (out : List ℕ) (s : Settled Channels) where
-    pub new-assigned : c ≡ 0 → s ≡ settle cs (done (add-channel cs new (channel-of Assigned (only links p))) (to p (CJcf successful u c (some new)) ∷ [])) out
-        → s ≡ settle cs (join-new new full cs p u c) out
+  module _ (h : c ≤ 1000) (f : full ≡ false) (out : List ℕ) (s : Settled Channels) (k : Kind) (id : ℕ)
+      (e : s ≡ settle cs (done (add-channel cs id (channel-of k (only links p))) (to p (CJcf successful u c (some id)) ∷ [])) out) where
+    pub new-assigned : c ≡ 0 → k ≡ Assigned → id ≡ new → s ≡ settle cs (join-new new full cs p u c) out
     unfolding join-new
-    new-assigned z e = rw (le-ltb 1000 c h, f, eq-eqb c 0 z) e
+    new-assigned z x y = rw (le-ltb 1000 c h, f, eq-eqb c 0 z, ← x, ← y) e
 
-    pub new-static : (c ≡ 0 → ⊥) → s ≡ settle cs (done (add-channel cs c (channel-of Static (only links p))) (to p (CJcf successful u c (some c)) ∷ [])) out
-        → s ≡ settle cs (join-new new full cs p u c) out
+    pub new-static : (c ≡ 0 → ⊥) → k ≡ Static → id ≡ c → s ≡ settle cs (join-new new full cs p u c) out
     unfolding join-new
-    new-static z e = rw (le-ltb 1000 c h, f, ne-eqb c 0 z) e
+    new-static z x y = rw (le-ltb 1000 c h, f, ne-eqb c 0 z, ← x) (rw y at e)
 
 -- ---- CJrq
 module _ (new : ℕ) (full : Bool) (us : Users) (cs : Channels) (p u c : ℕ) (out : List ℕ) where

@@ -1,13 +1,13 @@
 // Requests about users and channels, on lent columns: AUrq, CJrq, CLrq. Each decides, sends where there is room, then stores.
 ghost use mathlib.Core.Path.{_≡_};
-ghost use mathlib.Core.Bool.{_&&_};
+ghost use mathlib.Core.Bool.{not, _&&_};
 ghost use mathlib.Core.List.{List, [], _∷_};
 ghost use mathlib.Core.Option.{some};
-ghost use Prim.Native.Nat.{ℕ, _<_};
+ghost use Prim.Native.Nat.{ℕ, _^_, _<_};
 ghost use lib.Dec.{eqb};
-ghost use lib.ListN.{take, length};
+ghost use lib.ListN.{take, length, getD};
 ghost use Rattle.messages.specs.Named.{CJcf, successful};
-ghost use Rattle.places.specs.Sets.{any, only, links as allLinks};
+ghost use Rattle.places.specs.Sets.{any, has, only, links as allLinks};
 ghost use Rattle.places.specs.Swept.{Turns, anywhere};
 ghost use Rattle.records.specs.Records.{to};
 ghost use Rattle.domain.specs.Cells.{no-channel, kind, channel-of};
@@ -154,35 +154,14 @@ fn join_new(
     if tables::at_limit(limit, ids) {
         return confirms::deny_join(out, p, Result::TooManyChannels, u, c);
     }
+    // A static channel; where c is 0, an assigned one with an id of its own.
+    let mut kind = Kind::Static;
+    let mut new = c;
     if c == 0 {
-        let new = columns::unused(ids);
-        return start(
-            ids,
-            roles,
-            chairs,
-            guests,
-            marks,
-            Kind::Assigned,
-            new,
-            p,
-            u,
-            c,
-            out,
-        );
+        kind = Kind::Assigned;
+        new = columns::unused(ids);
     }
-    start(
-        ids,
-        roles,
-        chairs,
-        guests,
-        marks,
-        Kind::Static,
-        c,
-        p,
-        u,
-        c,
-        out,
-    )
+    start(ids, roles, chairs, guests, marks, kind, new, p, u, c, out)
 }
 
 // CJrq by u on p for channel c.
@@ -270,7 +249,29 @@ fn ends(ch: Channel, left: u16) -> bool
     false
 }
 
-// p leaves the channel at place j, where that is listed.
+// Others have joined the channel at place j, and p has not: so it stays as it is, listed or not.
+fn others_only(
+    roles: &[u8; 128],
+    chairs: &[u8; 128],
+    guests: &[u64; 128],
+    marks: &[u16; 128],
+    p: u8,
+    j: usize,
+) -> bool
+    requires { ⌜ j < 128 ⌝ }
+    ensures { λ r. ⌜ (r ≡ (not (eqb (getD (channel-cells (now (roles .entry)) (now (chairs .entry)) (now (guests .entry)) (now (marks .entry))) j no-channel .marks) 0)
+        && not (has (getD (channel-cells (now (roles .entry)) (now (chairs .entry)) (now (guests .entry)) (now (marks .entry))) j no-channel .marks) p)))
+        × (getD (channel-cells (now (roles .entry)) (now (chairs .entry)) (now (guests .entry)) (now (marks .entry))) j no-channel .marks < 2 ^ allLinks) ⌝ }
+{
+    let rs = &roles[..];
+    let cs = &chairs[..];
+    let gs = &guests[..];
+    let ms = &marks[..];
+    let m = ms[j];
+    (m != 0) & !masks::has(m as u64, p)
+}
+
+// p leaves the channel at place j, where that is listed. The list is the dear part, and is looked at last.
 fn leave_at(
     ids: &mut [u16; 128],
     roles: &mut [u8; 128],
@@ -288,6 +289,9 @@ fn leave_at(
 {
     let c = ids[j];
     if c == 0 {
+        return;
+    }
+    if others_only(roles, chairs, guests, marks, p, j) {
         return;
     }
     if columns::member(listed, c) {

@@ -1,4 +1,5 @@
 use mathlib.Core.Path.{sym, _∙_}
+use mathlib.Core.Logic.{⊎-elim}
 use Rattle.domain.specs.Tables.{grant}
 use Rattle.channels.proofs.Entering.{new-unknown, new-full, new-assigned, new-static}
 use borrow.Author.Needs.{needs}
@@ -37,16 +38,10 @@ same-length-3 c = search needs
 
 returns-3 : tie.Need-returns-3
 unfolding grant
-returns-3 c = new-assigned _ _ _ _ _ _ (c .before .before .before .before .before .before .before .before .before .before .before .before .before .before .before .before .before .if1 .left) (sym (c .before .before .before .before .before .before .before .before .before .before .before .before .before .before .at-limit .ensures) ∙ c .before .before .before .before .before .before .before .before .before .before .before .before .before .if2 .left) _ _ (c .before .before .before .before .before .before .before .before .before .before .before .before .if3 .taken) (rw (c .before .before .before .before .before .before .before .before .before .unused .ensures) at (c .before .before .start .ensures))
-
-start-requires-2 : tie.Need-start-requires-2
-start-requires-2 c κs = tt
-
-same-length-4 : tie.Need-same-length-4
-same-length-4 c = search needs
-
-returns-4 : tie.Need-returns-4
-returns-4 c = new-static _ _ _ _ _ _ (c .before .before .before .before .before .before .before .before .before .before .before .before .before .before .if1 .left) (sym (c .before .before .before .before .before .before .before .before .before .before .before .at-limit .ensures) ∙ c .before .before .before .before .before .before .before .before .before .before .if2 .left) _ _ (c .before .before .before .before .before .before .before .before .before .if3 .left) (c .before .before .start2 .ensures)
+returns-3 c =
+    let low = c .before .before .before .before .before .before .before .before .before .before .before .before .before .before .if1 .left in
+    let free = sym (c .before .before .before .before .before .before .before .before .before .before .before .at-limit .ensures) ∙ c .before .before .before .before .before .before .before .before .before .before .if2 .left in
+    ⊎-elim (λ w. new-assigned _ _ _ _ _ _ low free _ _ _ _ (c .before .before .start .ensures) (w .0 .taken) (w .4) (w .5 ∙ w .3 .ensures)) (λ w. new-static _ _ _ _ _ _ low free _ _ _ _ (c .before .before .start .ensures) (w .0 .left) (w .1) (w .2)) (c .before .before .before .before .before .before .before .before .before .if3 .came)
 
 pub join-new-spec : {M : Type 1} → statement M
 join-new-spec =
@@ -62,7 +57,4 @@ join-new-spec =
     unused-requires
     start-requires
     same-length-3
-    returns-3
-    start-requires-2
-    same-length-4
-    returns-4)
+    returns-3)
