@@ -206,13 +206,13 @@ pub fn request(
         };
     }
     let at = seeking::find(keys, k);
-    let h = tables::tokens::state_at(modes, values, at);
     let tests = 40 < number;
     if tests | (number == 37) {
+        let h = tables::tokens::state_at(modes, values, at);
         return inquire(names, homes, p, u, i, k, h, tests, out);
     }
     let most = limits.tokens;
     let ask = ask_of(number, more);
-    let d = deeds::decide(names, homes, keys, most, p, u, i, k, h, ask);
+    let d = deeds::decide(names, homes, keys, modes, values, most, p, u, i, k, at, ask);
     carry(keys, modes, values, at, k, d, out)
 }

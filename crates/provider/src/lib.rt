@@ -2,15 +2,90 @@
 // contents are taken.
 
 ghost use mathlib.Core.Path.{_≡_};
+ghost use mathlib.Core.Bool.{true, false, not, _||_};
+ghost use lib.Dec.{ltb};
+ghost use Rattle.places.specs.Sets.{if_then_else_, has as hasIn};
+ghost use Rattle.brief.specs.Shortly.{few-ids, NoneRead};
 ghost use Rattle.domain.specs.declared.Limits.{Limits};
 ghost use Rattle.domain.specs.Tables.{domain-of};
 ghost use Rattle.domain.specs.Effects.{answered};
 ghost use Rattle.domain.specs.Events.{loses, hears};
 ghost use Rattle.domain.specs.Outcomes.{after};
 ghost use Rattle.understanding.specs.Understood.{understood};
-use brief::Short;
+ghost use Rattle.understanding.specs.Readings.{Understands, Requests};
 use domain::answer::Answer;
 use domain::numbers::Reply;
+use understanding::Understood;
+
+// What a message asks for; a loss asks for what a DPum, 8, does.
+fn hear(lost: bool, octets: &[u8], listed: &mut [u16; 64]) -> Understood
+    ensures { λ r. ⌜ (lost ≡ true → Requests 8 0 0 0 r)
+        × (lost ≡ false → NoneRead few-ids (now (octets .entry)) → Understands (now (octets .entry)) r (now (listed .exit))) ⌝ }
+{
+    if lost {
+        return Understood {
+            reply: Reply::Done,
+            number: 8,
+            first: 0,
+            second: 0,
+            count: 0,
+        };
+    }
+    understanding::understand(octets, listed)
+}
+
+// A loss, or a message that is not one of a few ids, on an open connection. One way for both: the list that is lent, and all that works in it,
+// lies on the stack for these alone.
+fn long_event(
+    links: &mut u16,
+    names: &mut [u16; 64],
+    homes: &mut [u8; 64],
+    ids: &mut [u16; 128],
+    roles: &mut [u8; 128],
+    chairs: &mut [u8; 128],
+    guests: &mut [u64; 128],
+    marks: &mut [u16; 128],
+    keys: &mut [u16; 64],
+    modes: &mut [u8; 64],
+    values: &mut [u64; 64],
+    p: u8,
+    lost: bool,
+    octets: &[u8],
+    out: &mut [u8],
+) -> Answer
+    requires { ⌜ (not (ltb 15 p || not (hasIn (now links) p)) ≡ true) × (lost ≡ false → NoneRead few-ids (now octets)) ⌝ }
+    ensures { λ r. ⌜ ((l : Limits) → answered r (domain-of l (now (links .exit)) (now (names .exit)) (now (homes .exit)) (now (ids .exit)) (now (roles .exit))
+        (now (chairs .exit)) (now (guests .exit)) (now (marks .exit)) (now (keys .exit)) (now (modes .exit)) (now (values .exit))) (now (out .exit))
+        ≡ after (domain-of l (now (links .entry)) (now (names .entry)) (now (homes .entry)) (now (ids .entry)) (now (roles .entry))
+        (now (chairs .entry)) (now (guests .entry)) (now (marks .entry)) (now (keys .entry)) (now (modes .entry)) (now (values .entry))) (if lost then loses p else hears p (understood (now (octets .entry)))) (now (out .entry))) ⌝ }
+{
+    let mut listed = [0u16; 64];
+    let u = hear(lost, octets, &mut listed);
+    let reply = u.reply;
+    if states::numbers::reply_number(reply) != 0 {
+        return refusing::refuse(p, reply, octets, out);
+    }
+    requests::listed_request(
+        links,
+        names,
+        homes,
+        ids,
+        roles,
+        chairs,
+        guests,
+        marks,
+        keys,
+        modes,
+        values,
+        p,
+        u.number,
+        u.first,
+        u.second,
+        &mut listed,
+        u.count,
+        out,
+    )
+}
 
 // Connection p is lost.
 pub fn lose(
@@ -40,8 +115,8 @@ pub fn lose(
             sent: 0,
         };
     }
-    let mut list = [0u16; 64];
-    leaving::depart(
+    let none = [0u8; 0];
+    long_event(
         links,
         names,
         homes,
@@ -53,11 +128,9 @@ pub fn lose(
         keys,
         modes,
         values,
-        true,
         p,
-        0,
-        &mut list,
-        0,
+        true,
+        &none,
         out,
     )
 }
@@ -92,48 +165,43 @@ pub fn message(
             sent: 0,
         };
     }
-    let mut q = brief::read_short(octets);
-    if !q.ok {
-        let mut listed = [0u16; 64];
-        let u = understanding::understand(octets, &mut listed);
-        let reply = u.reply;
-        if states::numbers::reply_number(reply) != 0 {
-            return refusing::refuse(p, reply, octets, out);
-        }
-        if requests::lists(u.number) {
-            return requests::listed_request(
-                limits,
-                links,
-                names,
-                homes,
-                ids,
-                roles,
-                chairs,
-                guests,
-                marks,
-                keys,
-                modes,
-                values,
-                p,
-                u.number,
-                u.first,
-                u.second,
-                &mut listed,
-                u.count,
-                out,
-            );
-        }
-        q = Short {
-            ok: true,
-            number: u.number,
-            have: 0,
-            first: u.first,
-            second: u.second,
-            third: u.third,
-        };
+    let w = brief::tokens::read_token(octets);
+    if w.ok {
+        return passing::request(
+            limits,
+            names,
+            homes,
+            keys,
+            modes,
+            values,
+            p,
+            w.number,
+            w.user,
+            w.token,
+            w.more,
+            out,
+        );
     }
-    requests::brief_request(
-        limits,
+    let q = brief::read_short(octets);
+    if q.ok {
+        return requests::brief_request(
+            limits,
+            names,
+            homes,
+            ids,
+            roles,
+            chairs,
+            guests,
+            marks,
+            p,
+            q.number,
+            q.first,
+            q.second,
+            out,
+        );
+    }
+    long_event(
+        links,
         names,
         homes,
         ids,
@@ -145,10 +213,8 @@ pub fn message(
         modes,
         values,
         p,
-        q.number,
-        q.first,
-        q.second,
-        q.third,
+        false,
+        octets,
         out,
     )
 }
