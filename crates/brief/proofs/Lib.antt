@@ -1,2 +1,3 @@
 pub mod ShortLaws
 pub mod ListLaws
+pub mod Shapes

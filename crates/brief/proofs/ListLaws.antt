@@ -1,6 +1,6 @@
 -- What is read straight into a list that is lent: ids stored one after the other, and the message that they end. Assumes nothing.
 use mathlib.Core.Path.{_≡_, refl, sym, ap, _∙_}
-use mathlib.Core.Bool.{Bool, true, false}
+use mathlib.Core.Bool.{true, false}
 use mathlib.Core.List.{List, [], _∷_, _++_}
 use Prim.Native.Nat.{ℕ, zero, suc, _+_, _*_, _/_, _%_, _<_, _≤_}
 use native.Mathlib.Numerals.{add-one}
@@ -13,13 +13,13 @@ use Rattle.octets.specs.Octets.{got, follow, give, need, Item, anId, readItem, 
 use Rattle.octets.proofs.OctetLaws.{followed, go-on}
 use Rattle.octets.proofs.Reading.{length-one}
 use Rattle.messages.specs.Limits.{list-limit, message-limit}
-use Rattle.messages.specs.Messages.{Field, Row, plain, row, is-served}
+use Rattle.messages.specs.Messages.{Field, plain, row}
 use Rattle.messages.specs.Columns.{countAt}
 use Rattle.reader.specs.Held.{padded, isString, decoded}
 use Rattle.brief.specs.declared.lists.Head.{Head}
 use Rattle.brief.specs.Shortly.{IdAt}
 use Rattle.brief.specs.Listed.{in-list, Counts, Stored, Heads}
-use Rattle.brief.proofs.ShortLaws.{Takes, whole}
+use Rattle.brief.proofs.ShortLaws.{Takes, About, about, whole}
 
 -- one item more
 item-more : (item : Item) (i : ℕ) (xs : List ℕ) {vs rest : List ℕ} {v : ℕ} {end : List ℕ} → readItems item i xs ≡ got vs rest → readItem item rest ≡ got v end
@@ -58,25 +58,22 @@ module _ (s : List ℕ) (at low n : ℕ) (c : Counts s at n) (few : n ≤ list-l
       go-on (λ n. need (leb n list-limit) 8 (readItems (anId low) n)) (sym (length-one s at n (omega (arith, c .whole)) (c .is) (omega arith) .same))
       ∙ simp (le-leb n list-limit few) (h .read ∙ ap (λ l. got (take n ids) l) (drop-of-length-le s {i = at + 1 + 2 * n} (omega (arith, c .whole))))
 
--- what is known of a message by its first octet: its row, whether it ends in a string, whether it is served, how many values it has, and the octet's last 2 bits
-abbrev About : Type 0
-About = Row × Bool × Bool × ℕ × ℕ
-
-abbrev pub begins : ℕ → About
-begins o = (row (o / 4), isString (o / 4), is-served (o / 4), countAt (o / 4), o % 4)
+-- what is known of a message by its first octet, and the octet's last 2 bits
+abbrev pub begins : ℕ → About × ℕ
+begins o = (about (o / 4), o % 4)
 
 -- a message by its first octet and its fields, up to its list
 module _ (s : List ℕ) (o : ℕ) (is : o ≡ getD s 0 0) (some : 0 < length s) (byte : o < 256) (b : ℕ) (fs : List Field) (vs : List ℕ) (at low : ℕ) where
-  pub heads : Takes s 1 2 b fs vs (drop at s) → begins o ≡ (plain fs (list (anId low) list-limit), false, true, length vs, b)
+  pub heads : Takes s 1 2 b fs vs (drop at s) → begins o ≡ ((plain fs (list (anId low) list-limit), false, true, length vs), b)
       → padded 4 vs ≡ getD vs 0 0 ∷ getD vs 1 0 ∷ 0 ∷ 0 ∷ [] → at ≤ 5 → low ≤ 65536
       → (h : Head) → h ≡ record { ok = true; at = at; low = low; number = o / 4; first = getD vs 0 0; second = getD vs 1 0 } → Heads s h
   unfolding in-list decoded
   heads t e cells near most h f =
-      let row-is : row (o / 4) ≡ plain fs (list (anId low) list-limit) = ap (λ (x : About). x .0) e in
-      let no-string : isString (o / 4) ≡ false = ap (λ (x : About). x .1) e in
-      let served : is-served (o / 4) ≡ true = ap (λ (x : About). x .2) e in
-      let count : countAt (o / 4) ≡ length vs = ap (λ (x : About). x .3) e in
-      let bits : o % 4 ≡ b = ap (λ (x : About). x .4) e in
+      let a = ap (λ (x : About × ℕ). x .0) e in
+      let row-is : row (o / 4) ≡ plain fs (list (anId low) list-limit) = ap (λ (x : About). x .0) a in
+      let no-string : isString (o / 4) ≡ false = ap (λ (x : About). x .1) a in
+      let count : countAt (o / 4) ≡ length vs = ap (λ (x : About). x .3) a in
+      let bits : o % 4 ≡ b = ap (λ (x : About × ℕ). x .1) e in
       rw f
       (record {
         near = near;
@@ -87,6 +84,6 @@ module _ (s : List ℕ) (o : ℕ) (is : o ≡ getD s 0 0) (some : 0 < length s) 
             record {
               same = rw (whole s o is some short byte b bits fs vs (list (anId low) list-limit) row-is (drop at s) (take n ids) t (list-read s at low n c few ids l), no-string, count, cells, stored) refl;
               stored = stored;
-              served = served;
+              served = ap (λ (x : About). x .2) a;
             };
       })

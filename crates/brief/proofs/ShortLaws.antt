@@ -1,6 +1,6 @@
 -- What is read the short way: ids behind the first octet, a result or a reason before them, a list behind them. Assumes nothing.
-use mathlib.Core.Path.{_≡_, refl, sym, ap, _∙_}
-use mathlib.Core.Bool.{Bool, true, false}
+use mathlib.Core.Path.{_≡_, refl, ap, _∙_}
+use mathlib.Core.Bool.{Bool, true, false, cond}
 use mathlib.Core.List.{List, [], _∷_}
 use Prim.Native.Nat.{ℕ, _+_, _*_, _/_, _%_, _^_, _<_, _≤_}
 use native.Mathlib.Omega.{arith}
@@ -12,22 +12,14 @@ use Rattle.octets.specs.Bits.{takeBits}
 use Rattle.octets.proofs.OctetLaws.{go-on}
 use Rattle.octets.proofs.Reading.{octet-at}
 use Rattle.messages.specs.Limits.{message-limit}
-use Rattle.messages.specs.Messages.{Field, item, user, result, reason, kind, Row, plain, row, is-served}
-use Rattle.messages.specs.Codec.{takeField, takeFields, takeRow, Msg, readMsg, ok, ending, decode}
+use Rattle.messages.specs.Messages.{Field, item, result, reason, kind, Row, plain, row, is-served}
+use Rattle.messages.specs.Columns.{countAt}
+use Rattle.messages.specs.Codec.{takeField, takeFields, takeRow, readMsg, ok, ending, decode}
 use Rattle.brief.specs.declared.Short.{Short}
+use Rattle.brief.specs.declared.tokens.Wish.{Wish}
 use Rattle.reader.specs.Held.{padded, isString, decoded}
-use Rattle.brief.specs.Shortly.{in-full, few-ids, Shortly, IdAt, Starts, SecondId}
-
--- the first octet k of a message of a user and another id
-module _ (k low : ℕ) (e : _≡_ {A = Row × Bool × Bool × Bool × ℕ} (row (k / 4), isString (k / 4), is-served (k / 4), few-ids (k / 4), k % 4) (plain (user ∷ item (anId low) ∷ []) nothing, false, true, true, 0)) (most : low ≤ 65536) where
-  pub second-is : (o : ℕ) → o ≡ k → SecondId o low
-  second-is o is =
-      rw is
-      (record {
-        most = most;
-        starts = λ h. record { is = ap (λ (x : Row × Bool × Bool × Bool × ℕ). x .0) e; no-string = ap (λ (x : Row × Bool × Bool × Bool × ℕ). x .1) e; served = ap (λ (x : Row × Bool × Bool × Bool × ℕ). x .2) e; few = ap (λ (x : Row × Bool × Bool × Bool × ℕ). x .3) e };
-        whole = λ h. ap (λ (x : Row × Bool × Bool × Bool × ℕ). x .4) e;
-      })
+use Rattle.reader.specs.Reading.{decodeOf}
+use Rattle.brief.specs.Shortly.{of-values, in-full, in-words, short-number, token-number, Shortly, Wishes, IdAt}
 
 -- the fields from an octet on, and the octets behind them: none, or those from a place on
 pub record Takes (s : List ℕ) (i left bits : ℕ) (fs : List Field) (vs rest : List ℕ) : Type 0 where
@@ -85,6 +77,20 @@ module _ {s : List ℕ} {i : ℕ} {fs : List Field} {vs rest : List ℕ} where
             ∙ go-on (λ r. give ((o % 4 * 2 + p / 128) ∷ r .0, r .1)) (t .same));
       }
 
+-- what is known of a message by its number: its row, whether it ends in a string, whether it is served, and how many values it has
+abbrev pub About : Type 0
+About = Row × Bool × Bool × ℕ
+
+abbrev pub about : ℕ → About
+about n = (row n, isString n, is-served n, countAt n)
+
+-- and whether it has a few ids; of a request about a token, whether a result comes first
+abbrev pub of-short : ℕ → About × Bool
+of-short n = (about n, short-number n)
+
+abbrev pub of-token : ℕ → About × Bool × Bool
+of-token n = (about n, token-number n, eqb n 35)
+
 -- a message by its first octet, its fields and what follows them
 module _ (s : List ℕ) (o : ℕ) (is : o ≡ getD s 0 0) (some : 0 < length s) (few : length s ≤ message-limit) (byte : o < 256) (b : ℕ) (bits : o % 4 ≡ b) (fs : List Field) (vs : List ℕ) where
   number-first : takeField kind 0 0 s ≡ got (o / 4, b) (drop 1 s)
@@ -110,7 +116,31 @@ module _ (s : List ℕ) (o : ℕ) (is : o ≡ getD s 0 0) (some : 0 < length s) 
     unfolding decode
     whole = simp (lt-ltb 0 (length s) some, le-leb (length s) message-limit few) (ap ending read)
 
-  pub shortly : Starts o fs → Takes s 1 2 b fs vs [] → (q : Short) → q ≡ record { ok = true; number = o / 4; have = length vs; first = getD vs 0 0; second = getD vs 1 0; third = getD vs 2 0 }
-      → padded 4 vs ≡ getD vs 0 0 ∷ getD vs 1 0 ∷ getD vs 2 0 ∷ 0 ∷ [] → Shortly s q
-  unfolding in-full decoded
-  shortly st t q f cells = record { same = rw (f, whole nothing (st .is) [] [] t refl, st .no-string, cells) refl; served = rw f (st .served); few = rw f (st .few) }
+  -- and one of values alone
+  module _ (t : Takes s 1 2 b fs vs []) where
+    same-values : about (o / 4) ≡ (plain fs nothing, false, true, length vs) → of-values (o / 4) (padded 4 vs) ≡ decoded s (decodeOf s)
+    unfolding of-values decoded
+    same-values e =
+        rw (whole nothing (ap (λ (x : About). x .0) e) [] [] t refl, ap (λ (x : About). x .1) e, ap (λ (x : About). x .3) e) refl
+
+    pub shortly : of-short (o / 4) ≡ ((plain fs nothing, false, true, length vs), true)
+        → (q : Short) → q ≡ record { ok = true; number = o / 4; first = getD vs 0 0; second = getD vs 1 0 }
+        → padded 4 vs ≡ getD vs 0 0 ∷ getD vs 1 0 ∷ 0 ∷ 0 ∷ [] → Shortly s q
+    unfolding in-full
+    shortly e q is cells =
+        let a = ap (λ (x : About × Bool). x .0) e in
+        rw is
+        (record { same = rw (← cells) (same-values a); served = ap (λ (x : About). x .2) a; few = ap (λ (x : About × Bool). x .1) e })
+
+    pub wishes : (result : Bool) → of-token (o / 4) ≡ ((plain fs nothing, false, true, length vs), true, result)
+        → {user token more : ℕ} (w : Wish) → w ≡ record { ok = true; number = o / 4; user = user; token = token; more = more }
+        → padded 4 vs ≡ cond result (more ∷ user ∷ token ∷ 0 ∷ []) (user ∷ token ∷ more ∷ 0 ∷ []) → Wishes s w
+    unfolding in-words
+    wishes result e w is cells =
+        let a = ap (λ (x : About × Bool × Bool). x .0) e in
+        rw is
+        (record {
+          same = rw (ap (λ (x : About × Bool × Bool). x .2) e, ← cells) (same-values a);
+          served = ap (λ (x : About). x .2) a;
+          few = ap (λ (x : About × Bool × Bool). x .1) e;
+        })

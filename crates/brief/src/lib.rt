@@ -1,25 +1,27 @@
-// The short way: the messages of a few ids, which a conference sends most. Whoever gets no answer here reads the long way.
+// The short way: the messages of a few ids, which a conference sends most; those about tokens stand by themselves. What is declined here is no such
+// message, and goes the long way.
 pub mod lists;
+pub mod tokens;
 
 use messages::LIST_LIMIT;
 use octets::wide;
 use reader::Decoded;
+use tokens::Wish;
 ghost use mathlib.Core.Path.{_≡_};
-ghost use Prim.Native.Nat.{_+_, _<_, _≤_};
+ghost use mathlib.Core.List.{[], _∷_};
+ghost use Prim.Native.Nat.{_+_, _<_, _≤_, max};
 ghost use mathlib.Core.Bool.{true, false};
 ghost use lib.ListN.{length};
 ghost use Rattle.reader.specs.Reading.{decodeOf};
 ghost use Rattle.reader.specs.Held.{decoded};
-ghost use Rattle.brief.specs.Shortly.{in-full, Shortly, IdAt, Made, SecondId};
+ghost use Rattle.brief.specs.Shortly.{of-values, in-full, in-words, short-number, NoneRead, Shortly, IdAt, Made};
 
-// Whether a message is read; then its number, how many values it has, and the values, 0 where it has none.
+// Whether a message is read; then its number, and its values, 0 where it has none.
 pub struct Short {
     pub ok: bool,
     pub number: u32,
-    pub have: usize,
     pub first: u16,
     pub second: u16,
-    pub third: u16,
 }
 
 // Not read.
@@ -29,16 +31,14 @@ fn not_short() -> Short
     Short {
         ok: false,
         number: 0,
-        have: 0,
         first: 0,
         second: 0,
-        third: 0,
     }
 }
 
 // A message of these values, where none is above the largest id.
-fn of_values(number: u32, have: usize, a: u32, b: u32, c: u32) -> Short
-    ensures { λ r. ⌜ (r .ok ≡ true → Made number have a b c r) ⌝ }
+fn made(number: u32, a: u32, b: u32) -> Short
+    ensures { λ r. ⌜ (r .ok ≡ true → Made number a b r) × (r .ok ≡ false → 65535 < max a b) ⌝ }
 {
     if 65535 < a {
         return not_short();
@@ -46,16 +46,11 @@ fn of_values(number: u32, have: usize, a: u32, b: u32, c: u32) -> Short
     if 65535 < b {
         return not_short();
     }
-    if 65535 < c {
-        return not_short();
-    }
     Short {
         ok: true,
         number: number,
-        have: have,
         first: a as u16,
         second: b as u16,
-        third: c as u16,
     }
 }
 
@@ -67,117 +62,71 @@ fn id_at(s: &[u8], i: usize, low: u32) -> u32
     wide(s[i]) * 256 + wide(s[i + 1]) + low
 }
 
-// The lowest second id of a message of two ids, by its first octet; 65,536 where it is no such message.
-fn second_low(o: u8) -> u32
-    ensures { λ r. ⌜ SecondId o r ⌝ }
-{
-    if o % 4 != 0 {
-        return 65536;
-    }
-    let number = o / 4;
-    match number {
-        14 => 0, // CJrq
-        19 => 1001, // CDrq
-        29 | 31 | 37 | 39 | 41 => 1, // TGrq, TIrq, TPrq, TRrq, TTrq
-        _ => 65536,
-    }
-}
-
 // AUrq.
 fn no_ids(s: &[u8]) -> Short
     requires { ⌜ length (now s) ≡ 1 ⌝ }
-    ensures { λ r. ⌜ (r .ok ≡ true → Shortly (now (s .entry)) r) ⌝ }
+    ensures { λ r. ⌜ (r .ok ≡ true → Shortly (now (s .entry)) r) × (r .ok ≡ false → NoneRead short-number (now (s .entry))) ⌝ }
 {
     if s[0] != 0x28 {
         return not_short();
     }
-    of_values(10, 0, 0, 0, 0)
+    made(10, 0, 0)
 }
 
 // CCrq.
 fn one_id(s: &[u8]) -> Short
     requires { ⌜ length (now s) ≡ 3 ⌝ }
-    ensures { λ r. ⌜ (r .ok ≡ true → Shortly (now (s .entry)) r) ⌝ }
+    ensures { λ r. ⌜ (r .ok ≡ true → Shortly (now (s .entry)) r) × (r .ok ≡ false → NoneRead short-number (now (s .entry))) ⌝ }
 {
     if s[0] != 0x44 {
         return not_short();
     }
-    of_values(17, 1, id_at(s, 1, 1001), 0, 0)
+    made(17, id_at(s, 1, 1001), 0)
 }
 
-// A user and a channel, a private channel or a token: most messages of all.
-pub fn two_ids(s: &[u8]) -> Short
-    ensures { λ r. ⌜ (r .ok ≡ true → Shortly (now (s .entry)) r) ⌝ }
+// CJrq and CDrq: a user and a channel or a private channel.
+fn channel_ids(s: &[u8]) -> Short
+    requires { ⌜ length (now s) ≡ 5 ⌝ }
+    ensures { λ r. ⌜ (r .ok ≡ true → Shortly (now (s .entry)) r) × (r .ok ≡ false → NoneRead short-number (now (s .entry))) ⌝ }
 {
-    if s.len() != 5 {
-        return not_short();
-    }
     let o = s[0];
-    let low = second_low(o);
-    of_values(wide(o) / 4, 2, id_at(s, 1, 1001), id_at(s, 3, low), 0)
-}
-
-// TVrq.
-fn three_ids(s: &[u8]) -> Short
-    requires { ⌜ length (now s) ≡ 7 ⌝ }
-    ensures { λ r. ⌜ (r .ok ≡ true → Shortly (now (s .entry)) r) ⌝ }
-{
-    if s[0] != 0x84 {
-        return not_short();
+    if o == 0x38 {
+        return made(14, id_at(s, 1, 1001), id_at(s, 3, 0));
     }
-    of_values(33, 3, id_at(s, 1, 1001), id_at(s, 3, 1), id_at(s, 5, 1001))
-}
-
-// TVrs: its result lies in the last 2 bits of the first octet and the first 2 of the next.
-fn result_and_ids(s: &[u8]) -> Short
-    requires { ⌜ length (now s) ≡ 6 ⌝ }
-    ensures { λ r. ⌜ (r .ok ≡ true → Shortly (now (s .entry)) r) ⌝ }
-{
-    let o = wide(s[0]);
-    let p = wide(s[1]);
-    if o / 4 != 35 {
-        return not_short();
-    }
-    if p % 64 != 0 {
-        return not_short();
-    }
-    of_values(35, 3, o % 4 * 4 + p / 64, id_at(s, 2, 1001), id_at(s, 4, 1))
-}
-
-// The message of these octets, where it is one of those above.
-pub fn read_short(s: &[u8]) -> Short
-    ensures { λ r. ⌜ (r .ok ≡ true → Shortly (now (s .entry)) r) ⌝ }
-{
-    let n = s.len();
-    if n == 5 {
-        return two_ids(s);
-    }
-    if n == 7 {
-        return three_ids(s);
-    }
-    if n == 6 {
-        return result_and_ids(s);
-    }
-    if n == 3 {
-        return one_id(s);
-    }
-    if n == 1 {
-        return no_ids(s);
+    if o == 0x4C {
+        return made(19, id_at(s, 1, 1001), id_at(s, 3, 1001));
     }
     not_short()
 }
 
-// What was read the short way, with 0 in the other cells.
-fn in_full(q: Short) -> Decoded
-    ensures { λ r. ⌜ r ≡ in-full q ⌝ }
+// The message of these octets, where it is one of those above.
+pub fn read_short(s: &[u8]) -> Short
+    ensures { λ r. ⌜ (r .ok ≡ true → Shortly (now (s .entry)) r) × (r .ok ≡ false → NoneRead short-number (now (s .entry))) ⌝ }
 {
-    let values = [q.first as u32, q.second as u32, q.third as u32, 0];
+    let n = s.len();
+    if n == 5 {
+        return channel_ids(s);
+    }
+    if n == 1 {
+        return no_ids(s);
+    }
+    if n == 3 {
+        return one_id(s);
+    }
+    not_short()
+}
+
+// A message of these values alone, with 0 in the other cells.
+fn of_values(number: u32, a: u16, b: u16, c: u16) -> Decoded
+    ensures { λ r. ⌜ r ≡ of-values number (a ∷ b ∷ c ∷ 0 ∷ []) ⌝ }
+{
+    let values = [a as u32, b as u32, c as u32, 0];
     let ids = [0u16; LIST_LIMIT];
     Decoded {
         ok: true,
         refusal: 0,
-        number: q.number,
-        have: q.have,
+        number: number,
+        have: messages::count_of(number),
         values: values,
         count: 0,
         octets: false,
@@ -186,10 +135,31 @@ fn in_full(q: Short) -> Decoded
     }
 }
 
+// What was read the short way, as the long way holds it.
+fn in_full(q: Short) -> Decoded
+    ensures { λ r. ⌜ r ≡ in-full q ⌝ }
+{
+    of_values(q.number, q.first, q.second, 0)
+}
+
+// The same of a request about a token: a TVrs has its result first.
+fn in_words(w: Wish) -> Decoded
+    ensures { λ r. ⌜ r ≡ in-words w ⌝ }
+{
+    if w.number == 35 {
+        return of_values(w.number, w.more, w.user, w.token);
+    }
+    of_values(w.number, w.user, w.token, w.more)
+}
+
 // The message of these octets: the short way first, else by the table of messages.
 pub fn decode(s: &[u8]) -> Decoded
     ensures { λ r. ⌜ r ≡ decoded (now (s .entry)) (decodeOf (now (s .entry))) ⌝ }
 {
+    let w = tokens::read_token(s);
+    if w.ok {
+        return in_words(w);
+    }
     let q = read_short(s);
     if q.ok {
         return in_full(q);

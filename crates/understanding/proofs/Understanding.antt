@@ -1,8 +1,8 @@
 -- What is understood of octets, test by test, and that a request as the code holds it asks for what the message does. Assumes nothing.
 use mathlib.Core.Path.{_≡_, refl, sym, ap, ap₂, _∙_, subst}
-use mathlib.Core.Bool.{Bool, true, false, not, cond, _&&_, _||_, false≢true}
-use mathlib.Core.List.{List, [], _∷_, _++_}
-use Prim.Native.Nat.{ℕ, _-_, _/_, _%_, _≤_, _<_}
+use mathlib.Core.Bool.{Bool, true, false, not, cond, _||_, false≢true}
+use mathlib.Core.List.{List, [], _∷_}
+use Prim.Native.Nat.{ℕ, _-_, _%_, _≤_, _<_}
 use native.Mathlib.Omega.{arith}
 use borrow.Author.Tests.{lt-ltb, le-ltb, le-leb, lt-leb, ltb-true, ltb-false, leb-true, eqb-true, ne-eqb}
 use lib.Dec.{eqb, leb, ltb}
@@ -24,17 +24,17 @@ use Rattle.reader.specs.Held.{padded, noMessage, decoded, headOf, hasIds, kept,
 use Rattle.reader.specs.declared.Decoded.{Decoded}
 use Rattle.reader.specs.declared.Head.{Head}
 use Rattle.brief.specs.declared.Short.{Short}
-use Rattle.brief.specs.Shortly.{in-full, few-ids, Shortly}
+use Rattle.brief.specs.declared.tokens.Wish.{Wish}
+use Rattle.brief.specs.Shortly.{of-values, in-full, in-words, token-number, short-number, few-ids, NoneRead, Shortly, Wishes}
 use Rattle.brief.specs.declared.lists.Listing.{Listing}
 use Rattle.brief.specs.Listed.{in-list, Listed}
 use Rattle.domain.specs.Numbers.{replyNumber}
-use Rattle.domain.specs.declared.numbers.Reply.the-variants.{Done}
 use Rattle.domain.specs.Tables.{Domain}
 use Rattle.domain.specs.Effects.{Effect}
-use Rattle.domain.specs.Events.{Reading, reads, refuses, act, answers, ends, sends, complaint}
+use Rattle.domain.specs.Events.{refuses, act, answers, ends, sends, complaint}
 use Rattle.understanding.specs.declared.Understood.{Understood}
 use Rattle.understanding.specs.Understood.{number-in, read-as, understood}
-use Rattle.understanding.specs.Requests.{pass-request, token-request, brief-request, listed-request, lists, request}
+use Rattle.understanding.specs.Requests.{pass-request, token-request, brief-request, listed-request}
 use Rattle.understanding.specs.Readings.{reply-for, requested, asks, Understands, Requests, Asked}
 
 -- ---- the tests, in their order
@@ -113,20 +113,26 @@ module _ (u k : ℕ) (h : u ≤ 65535) (l : k ≤ 65535) where
 first-listed : (xs : List ℕ) → take (length xs) (padded 64 xs) ≡ xs
 first-listed xs = take-at xs (replicate (64 - length xs) 0) (length xs) refl
 
--- a message as the code holds it
-value-of : Message → ℕ → ℕ
-value-of m i = getD (padded 4 (fields m .values)) i 0 % 65536
+-- a request by its number, its values and its list, by the way that reads it
+few-request : (n : ℕ) → (ℕ → ℕ) → Message
+few-request n v =
+    if token-number n then if eqb n 35 then token-request n (v 1) (v 2) (v 0) else token-request n (v 0) (v 1) (v 2)
+    else brief-request n (v 0) (v 1)
 
-request-of : Message → List ℕ → Message
-request-of m ids = request (fields m .number) (value-of m 0) (value-of m 1) (value-of m 2) ids
+asked-for : (n : ℕ) → (ℕ → ℕ) → List ℕ → Message
+asked-for n v ids = if few-ids n then few-request n v else listed-request n (v 0) (v 1) ids
 
--- some ids are those of a message, where it has a list of them
+-- a value as the code holds it
+value-in : List ℕ → ℕ → ℕ
+value-in values i = getD values i 0 % 65536
+
+-- the ids are those of the message, where it has some
 ItsIds : Msg → List ℕ → Type 0
 ItsIds m ids = hasIds (tailAt (m .number)) ≡ true → ids ≡ m .items
 
 request-act : (new : ℕ) (d : Domain) (p : ℕ) (ids : List ℕ) (m : Message) → ItsIds (fields m) ids → formed m ≡ true → is-served (fields m .number) ≡ true
-    → act new d p (request-of m ids) ≡ act new d p m
-unfolding request-of ItsIds value-of request lists few-ids listed-request brief-request token-request pass-request fields is-served entry tailAt packedAt packed act
+    → act new d p (asked-for (fields m .number) (value-in (padded 4 (fields m .values))) ids) ≡ act new d p m
+unfolding asked-for few-request ItsIds value-in few-ids token-number short-number listed-request brief-request token-request pass-request fields is-served entry tailAt packedAt packed act
 request-act new d p ids (EDrq h i) l f s = refl
 request-act new d p ids (DPum n) l f s = refl
 request-act new d p ids (RJum n os) l f s = refl
@@ -201,53 +207,7 @@ module _ (os : List ℕ) (x : Msg) (listed : List ℕ) where
   unfolding Lists decoded kept
   kept-lists before e h = ap (take (length (x .items))) (e ∙ rw h (sym (decoded-ids h)))
 
-module _ (os : List ℕ) (dec : Decoded) (u : Understood) (a : Asked (headOf dec) u) (listed : List ℕ) (l : Lists dec listed) where
-  requested-is : (m : Message) → dec ≡ decoded os (ok (fields m)) → requested u listed ≡ request-of m (take (length (fields m .items)) listed)
-  unfolding requested request-of value-of decoded headOf
-  requested-is m e = rw (a .number-is, a .first-is, a .second-is, a .third-is, a .count-is, e) refl
-
-  served-asks : (m : Message) → dec ≡ decoded os (ok (fields m)) → formed m ≡ true → is-served (fields m .number) ≡ true → understood os ≡ reads m → Understands os u listed
-  unfolding answers asks
-  served-asks m e f s i new d p room =
-      let same = its-ids os (fields m) listed (subst (λ (x : Decoded). Lists x listed) e l) in
-      rw (i, a .done) (ap (λ (x : Effect Domain). ends d room x) (sym (ap (act new d p) (requested-is m e) ∙ request-act new d p _ m same f s)))
-
-  asked-asks : dec ≡ decoded os (decode os) → understood os ≡ read-as os (heard os) → Bytes os → dec .ok ≡ true → is-served (number-in os) ≡ true → Understands os u listed
-  unfolding decoded noMessage read-as
-  asked-asks e i y k s = go (decode os) refl
-    where
-      go : (o : Outcome Msg) → decode os ≡ o → Understands os u listed
-      go (ok x) f = read-named os y x f λ m is same.
-          served-asks m (e ∙ ap (decoded os) (f ∙ ap ok (sym same))) (heard-formed os y m is)
-          (ap is-served (ap (λ (z : Msg). z .number) same ∙ number-is os x f) ∙ s) (i ∙ ap (read-as os) is)
-      go (refuse n) f = absurd (false≢true (sym (ap (λ (z : Decoded). z .ok) (e ∙ ap (decoded os) f)) ∙ k))
-
--- the long way
-module _ (os : List ℕ) (h : Head) (before listed : List ℕ) (w : Reads os (decode os) before listed h) (u : Understood) (i : understood os ≡ read-as os (heard os)) where
-  head-is : (o : Outcome Msg) → decode os ≡ o → h ≡ headOf (decoded os o)
-  head-is o f = w .head ∙ ap (λ (o : Outcome Msg). headOf (decoded os o)) f
-
-  pub head-asks : Asked h u → Bytes os → h .ok ≡ true → is-served (number-in os) ≡ true → Understands os u listed
-  unfolding decoded noMessage headOf
-  head-asks a y k s = go (decode os) refl
-    where
-      go : (o : Outcome Msg) → decode os ≡ o → Understands os u listed
-      go (ok x) f =
-          asked-asks os (decoded os (ok x)) u (subst (λ (z : Head). Asked z u) (head-is (ok x) f) a) listed
-          (kept-lists os x listed before (w .list x f)) (ap (decoded os) (sym f)) i y refl s
-      go (refuse n) f = absurd (false≢true (sym (ap (λ (z : Head). z .ok) (head-is (refuse n) f)) ∙ k))
-
-  pub codec-asks : h .ok ≡ false → replyNumber (u .reply) ≡ reply-for (h .refusal) → Understands os u listed
-  unfolding decoded noMessage headOf read-as
-  codec-asks k r = go (decode os) refl
-    where
-      go : (o : Outcome Msg) → decode os ≡ o → Understands os u listed
-      go (ok x) f = absurd (false≢true (sym k ∙ ap (λ (z : Head). z .ok) (head-is (ok x) f)))
-      go (refuse n) f =
-          let z : h .refusal ≡ n = ap (λ (z : Head). z .refusal) (head-is (refuse n) f) in
-          refuses-asks os n u listed (i ∙ ap (read-as os) (refused-heard os n f)) (r ∙ ap reply-for z ∙ reply-for-is n (refusals os n f)) (refusal-some n (refusals os n f))
-
--- ---- what is read the short way is served
+-- ---- what is read is served
 served-way : (w : Way) → isServed w ≡ true → goesUp w ≡ true
 served-way down h = h
 served-way up h = refl
@@ -268,70 +228,135 @@ served-understood os x e s =
     read-understood os (ltb-true 0 (length os) (both-left (ltb 0 (length os)) (leb (length os) 1024) size))
     (leb-true (length os) 1024 (both-right (ltb 0 (length os)) (leb (length os) 1024) size)) (served-known (number-in os) s) (served-way (entry (number-in os) .0) s) s
 
-module _ (os : List ℕ) (dec : Decoded) (e : dec ≡ decoded os (decode os)) (k : dec .ok ≡ true) (s : is-served (dec .number) ≡ true) where
-  served-read : Bytes os → (u : Understood) → Asked (headOf dec) u → (listed : List ℕ) → Lists dec listed → Understands os u listed
+-- the octets ask for what a request does
+abbrev pub Asks : (os : List ℕ) (r : Message) → Type 0
+Asks os r = (new : ℕ) (d : Domain) (p room : ℕ) → answers new d p (understood os) room ≡ ends d room (act new d p r)
+
+module _ (os : List ℕ) (y : Bytes os) (dec : Decoded) (e : dec ≡ decoded os (decode os)) (k : dec .ok ≡ true) (s : is-served (dec .number) ≡ true) where
+  message-read : {G : Type 0} → ((x : Msg) → decode os ≡ ok x → dec ≡ decoded os (ok x) → G) → G
   unfolding decoded noMessage
-  served-read y u r listed l = go (decode os) refl
+  message-read {G} g = go (decode os) refl
+    where
+      go : (o : Outcome Msg) → decode os ≡ o → G
+      go (ok x) f = g x f (e ∙ ap (decoded os) f)
+      go (refuse n) f = absurd (false≢true (sym (ap (λ (z : Decoded). z .ok) (e ∙ ap (decoded os) f)) ∙ k))
+
+  module _ (x : Msg) (f : decode os ≡ ok x) (is : dec ≡ decoded os (ok x)) where
+    served-number : is-served (x .number) ≡ true
+    unfolding decoded
+    served-number = ap (λ (z : Decoded). is-served (z .number)) (sym is) ∙ s
+
+    heard-read : understood os ≡ read-as os (heard os)
+    heard-read = served-understood os x f (ap is-served (sym (number-is os x f)) ∙ served-number)
+
+  read-asks : (listed : List ℕ) → Lists dec listed → Asks os (asked-for (dec .number) (value-in (dec .values)) (take (dec .count) listed))
+  unfolding answers read-as decoded
+  read-asks listed l new d p room =
+      message-read λ x f is.
+      read-named os y x f λ m hears same.
+      let whole : dec ≡ decoded os (ok (fields m)) = is ∙ ap (λ (z : Msg). decoded os (ok z)) (sym same) in
+      let ids = its-ids os (fields m) listed (subst (λ (z : Decoded). Lists z listed) whole l) in
+      rw (heard-read x f is, hears, whole)
+      (ap (λ (z : Effect Domain). ends d room z)
+      (sym (request-act new d p _ m ids (heard-formed os y m hears) (ap (λ (z : Msg). is-served (z .number)) same ∙ served-number x f is))))
+
+  not-few : NoneRead few-ids os → few-ids (dec .number) ≡ false
+  unfolding decoded
+  not-few none = message-read λ x f is.
+      let number : dec .number ≡ x .number = ap (λ (z : Decoded). z .number) is in
+      rw number (go x f (served-number x f is) (few-ids (x .number)) refl)
+    where
+      go : (x : Msg) → decode os ≡ ok x → is-served (x .number) ≡ true → (b : Bool) → few-ids (x .number) ≡ b → b ≡ false
+      go x f n true h = absurd (none x f n h)
+      go x f n false h = refl
+
+  -- what is read before is none of these
+  list-understood : NoneRead few-ids os → (u : Understood) → Asked (headOf dec) u → (listed : List ℕ) → Lists dec listed → Understands os u listed
+  unfolding asks requested asked-for value-in headOf
+  list-understood none u a listed l new d p room =
+      read-asks listed l new d p room
+      ∙ rw (a .done, a .number-is, a .first-is, a .second-is, a .count-is, not-few none) refl
+
+-- the long way
+module _ (os : List ℕ) (h : Head) (before listed : List ℕ) (w : Reads os (decode os) before listed h) (u : Understood) where
+  head-is : (o : Outcome Msg) → decode os ≡ o → h ≡ headOf (decoded os o)
+  head-is o f = w .head ∙ ap (λ (o : Outcome Msg). headOf (decoded os o)) f
+
+  pub head-asks : NoneRead few-ids os → Asked h u → Bytes os → h .ok ≡ true → is-served (number-in os) ≡ true → Understands os u listed
+  unfolding decoded noMessage headOf
+  head-asks none a y k s = go (decode os) refl
     where
       go : (o : Outcome Msg) → decode os ≡ o → Understands os u listed
       go (ok x) f =
-          let n : is-served (number-in os) ≡ true = ap is-served (sym (ap (λ (z : Decoded). z .number) (e ∙ ap (decoded os) f) ∙ number-is os x f)) ∙ s in
-          asked-asks os dec u r listed l e (served-understood os x f n) y k n
-      go (refuse n) f = absurd (false≢true (sym (ap (λ (z : Decoded). z .ok) (e ∙ ap (decoded os) f)) ∙ k))
+          list-understood os y (decoded os (ok x)) (ap (decoded os) (sym f)) refl (ap is-served (number-is os x f) ∙ s) none u
+          (subst (λ (z : Head). Asked z u) (head-is (ok x) f) a) listed (kept-lists os x listed before (w .list x f))
+      go (refuse n) f = absurd (false≢true (sym (ap (λ (z : Head). z .ok) (head-is (refuse n) f)) ∙ k))
+
+  pub codec-asks : understood os ≡ read-as os (heard os) → h .ok ≡ false → replyNumber (u .reply) ≡ reply-for (h .refusal) → Understands os u listed
+  unfolding decoded noMessage headOf read-as
+  codec-asks i k r = go (decode os) refl
+    where
+      go : (o : Outcome Msg) → decode os ≡ o → Understands os u listed
+      go (ok x) f = absurd (false≢true (sym k ∙ ap (λ (z : Head). z .ok) (head-is (ok x) f)))
+      go (refuse n) f =
+          let z : h .refusal ≡ n = ap (λ (z : Head). z .refusal) (head-is (refuse n) f) in
+          refuses-asks os n u listed (i ∙ ap (read-as os) (refused-heard os n f)) (r ∙ ap reply-for z ∙ reply-for-is n (refusals os n f)) (refusal-some n (refusals os n f))
 
 -- a message with a list
-pub list-asks : (os : List ℕ) → Bytes os → (u : Understood) (listed : List ℕ) (l : Listing) → Listed os l listed → l .first < 65536 → l .second < 65536
-    → Requests (l .number) (l .first) (l .second) 0 (l .count) u → Understands os u listed
+pub list-asks : (os : List ℕ) → Bytes os → NoneRead few-ids os → (u : Understood) (listed : List ℕ) (l : Listing) → Listed os l listed → l .first < 65536 → l .second < 65536
+    → Requests (l .number) (l .first) (l .second) (l .count) u → Understands os u listed
 unfolding in-list headOf Lists
-list-asks os y u listed l h a b r =
-    served-read os (in-list l listed) (h .same) refl (h .served) y u
+list-asks os y none u listed l h a b r =
+    list-understood os y (in-list l listed) (h .same) refl (h .served) none u
     (rw (← small (l .first) (omega arith), ← small (l .second) (omega arith)) at r) listed
     (λ k. sym (ap (λ n. take n (padded 64 (take (l .count) listed))) (sym (h .stored)) ∙ first-listed (take (l .count) listed)))
 
--- ---- what is asked, by the reply, and by whether the request has a list
+-- ---- what is asked, by the reply
 module _ (new : ℕ) (d : Domain) (p room : ℕ) (os : List ℕ) (u : Understood) (listed : List ℕ) where
   pub refused-asks : (replyNumber (u .reply) ≡ 0 → ⊥)
       → asks new d p room os u listed ≡ sends d room (replyNumber (u .reply)) d (complaint (replyNumber (u .reply)) p os)
   unfolding asks
   refused-asks h = rw (ne-eqb (replyNumber (u .reply)) 0 h) refl
 
-  pub listed-asks : replyNumber (u .reply) ≡ 0 → lists (u .number) ≡ true
+  pub listed-asks : replyNumber (u .reply) ≡ 0
       → asks new d p room os u listed ≡ ends d room (act new d p (listed-request (u .number) (u .first) (u .second) (take (u .count) listed)))
-  unfolding asks requested request
-  listed-asks h l = rw (h, l) refl
-
--- the octets ask for what a request of a few ids does
-abbrev pub Briefly : (os : List ℕ) (number a b c : ℕ) → Type 0
-Briefly os number a b c = (new : ℕ) (d : Domain) (p room : ℕ) → answers new d p (understood os) room ≡ ends d room (act new d p (brief-request number a b c))
-
-pub brief-asks : (os : List ℕ) (u : Understood) (listed : List ℕ) → Understands os u listed → replyNumber (u .reply) ≡ 0 → lists (u .number) ≡ false
-    → Briefly os (u .number) (u .first) (u .second) (u .third)
-unfolding asks requested request
-brief-asks os u listed e h l new d p room = e new d p room ∙ rw (h, l) refl
+  unfolding asks requested
+  listed-asks h = rw h refl
 
 -- ---- a message of a few ids, which has no list
-few-unlisted : (n : ℕ) → few-ids n ≡ true → lists n ≡ false
-unfolding lists
-few-unlisted n h = rw h refl
+few-lists : (dec : Decoded) → dec .count ≡ 0 → Lists dec []
+unfolding Lists
+few-lists dec e h = rw e refl
 
--- read the short way, it asks for what it is understood to
-module _ (os : List ℕ) (y : Bytes os) (q : Short) (h : Shortly os q) (a : q .first < 65536) (b : q .second < 65536) (c : q .third < 65536) where
-  as-understood : Understood
-  as-understood = record { reply = Done; number = q .number; first = q .first; second = q .second; third = q .third; count = 0 }
+module _ (os : List ℕ) (y : Bytes os) (w : Wish) (h : Wishes os w) (a : w .user < 65536) (b : w .token < 65536) (c : w .more < 65536) where
+  -- whether the result comes first or not
+  in-order : (b : Bool) → let v = value-in (cond b (w .more ∷ w .user ∷ w .token ∷ 0 ∷ []) (w .user ∷ w .token ∷ w .more ∷ 0 ∷ [])) in
+      (if b then token-request (w .number) (v 1) (v 2) (v 0) else token-request (w .number) (v 0) (v 1) (v 2)) ≡ token-request (w .number) (w .user) (w .token) (w .more)
+  unfolding value-in
+  in-order true = three (w .user) (w .token) (omega arith) (omega arith) (token-request (w .number)) (w .more) (omega arith)
+  in-order false = three (w .user) (w .token) (omega arith) (omega arith) (token-request (w .number)) (w .more) (omega arith)
 
-  short-understood : Understands os as-understood []
-  unfolding as-understood in-full headOf Lists
-  short-understood =
-      served-read os (in-full q) (h .same) refl (h .served) y as-understood
-      (record {
-        done = refl;
-        number-is = refl;
-        first-is = sym (small (q .first) (omega arith));
-        second-is = sym (small (q .second) (omega arith));
-        third-is = sym (small (q .third) (omega arith));
-        count-is = refl;
-      }) [] (λ k. refl)
+  pub token-asks : Asks os (token-request (w .number) (w .user) (w .token) (w .more))
+  unfolding in-words of-values asked-for few-request few-ids
+  token-asks new d p room =
+      read-asks os y (in-words w) (h .same) refl (h .served) [] (few-lists (in-words w) refl) new d p room
+      ∙ rw (h .few) (ap (λ m. ends d room (act new d p m)) (in-order (eqb (w .number) 35)))
 
-  pub short-asks : Briefly os (q .number) (q .first) (q .second) (q .third)
-  unfolding as-understood
-  short-asks = brief-asks os as-understood [] short-understood refl (few-unlisted (q .number) (h .few))
+module _ (os : List ℕ) (y : Bytes os) (q : Short) (h : Shortly os q) (a : q .first < 65536) (b : q .second < 65536) where
+  -- none of these is above 28
+  no-token : token-number (q .number) ≡ false
+  unfolding token-number short-number
+  no-token = go (ltb 28 (q .number)) refl
+    where
+      go : (b : Bool) → ltb 28 (q .number) ≡ b → b ≡ false
+      go false e = refl
+      go true e =
+          let n = q .number in
+          let l : 28 < n = ltb-true 28 n e in
+          sym (rw (ne-eqb n 10 (omega arith), ne-eqb n 14 (omega arith), ne-eqb n 17 (omega arith), ne-eqb n 19 (omega arith)) at (h .few))
+
+  pub short-asks : Asks os (brief-request (q .number) (q .first) (q .second))
+  unfolding in-full of-values asked-for few-request few-ids value-in
+  short-asks new d p room =
+      read-asks os y (in-full q) (h .same) refl (h .served) [] (few-lists (in-full q) refl) new d p room
+      ∙ rw (no-token, h .few, small (q .first) (omega arith), small (q .second) (omega arith)) refl

@@ -10,7 +10,7 @@ use Rattle.reader.specs.declared.Head.{Head}
 use Rattle.domain.specs.Numbers.{replyNumber}
 use Rattle.domain.specs.Tables.{Domain}
 use Rattle.domain.specs.Events.{Outcome, act, answers, ends, sends, complaint}
-use Rattle.understanding.specs.Requests.{request}
+use Rattle.understanding.specs.Requests.{listed-request}
 use Rattle.understanding.specs.declared.Understood.{Understood}
 use Rattle.understanding.specs.Understood.{understood}
 
@@ -20,7 +20,7 @@ reply-for n = if eqb n 4 then 4 else if eqb n 5 then 5 else if eqb n 7 then 7 el
 
 -- what the code understood, with the ids that it listed: a reply other than 0 refuses, and else a request is made
 unfoldable pub requested : Understood → List ℕ → Message
-requested u listed = request (u .number) (u .first) (u .second) (u .third) (take (u .count) listed)
+requested u listed = listed-request (u .number) (u .first) (u .second) (take (u .count) listed)
 
 unfoldable pub asks : (new : ℕ) (d : Domain) (p room : ℕ) (os : List ℕ) (u : Understood) (listed : List ℕ) → Outcome
 asks new d p room os u listed =
@@ -31,13 +31,12 @@ abbrev pub Understands : (os : List ℕ) (u : Understood) (listed : List ℕ) �
 Understands os u listed = (new : ℕ) (d : Domain) (p room : ℕ) → answers new d p (understood os) room ≡ asks new d p room os u listed
 
 -- a request by its number, values and count of ids; and one of a message that was read: nothing is lost below 65,536
-pub record Requests (number first second third count : ℕ) (u : Understood) : Type 0 where
+pub record Requests (number first second count : ℕ) (u : Understood) : Type 0 where
   pub done : replyNumber (u .reply) ≡ 0
   pub number-is : u .number ≡ number
   pub first-is : u .first ≡ first
   pub second-is : u .second ≡ second
-  pub third-is : u .third ≡ third
   pub count-is : u .count ≡ count
 
 abbrev pub Asked : Head → Understood → Type 0
-Asked h u = Requests (h .number) (getD (h .values) 0 0 % 65536) (getD (h .values) 1 0 % 65536) (getD (h .values) 2 0 % 65536) (h .count) u
+Asked h u = Requests (h .number) (getD (h .values) 0 0 % 65536) (getD (h .values) 1 0 % 65536) (h .count) u

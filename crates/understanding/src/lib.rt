@@ -1,6 +1,7 @@
 // What the provider makes of the octets of a message, before it looks at any table.
 ghost use mathlib.Core.Path.{_≡_};
 ghost use Rattle.domain.specs.Numbers.{replyNumber};
+ghost use Rattle.brief.specs.Shortly.{few-ids, NoneRead};
 ghost use Rattle.understanding.specs.Readings.{reply-for, Understands, Requests, Asked};
 use domain::numbers::Reply;
 use reader::Head;
@@ -11,24 +12,23 @@ pub struct Understood {
     pub number: u32,
     pub first: u16,
     pub second: u16,
-    pub third: u16,
     pub count: usize,
 }
 
-// Messages with a list of ids first, which is stored; else the long way, which stores it too. Those of a few ids alone are read before
-// (`brief` `read_short`), where no list is at hand.
+// Messages with a list of ids first, which is stored; else the long way, which stores it too. Those of a few ids alone are read before, where no
+// list is at hand (`brief` `read_token`, `read_short`): nothing is said of them here, so a request need hold no more than two values and a list.
 pub fn understand(octets: &[u8], listed: &mut [u16; 64]) -> Understood
-    ensures { λ r. ⌜ Understands (now (octets .entry)) r (now (listed .exit)) ⌝ }
+    ensures { λ r. ⌜ (NoneRead few-ids (now (octets .entry)) → Understands (now (octets .entry)) r (now (listed .exit))) ⌝ }
 {
     let l = brief::lists::read_listing(octets, listed);
     if l.ok {
-        return done(l.number, l.first, l.second, 0, l.count);
+        return done(l.number, l.first, l.second, l.count);
     }
     understand_all(octets, listed)
 }
 
 fn understand_all(octets: &[u8], listed: &mut [u16; 64]) -> Understood
-    ensures { λ r. ⌜ Understands (now (octets .entry)) r (now (listed .exit)) ⌝ }
+    ensures { λ r. ⌜ (NoneRead few-ids (now (octets .entry)) → Understands (now (octets .entry)) r (now (listed .exit))) ⌝ }
 {
     if octets.len() == 0 {
         return refused(Reply::WrongLength);
@@ -74,21 +74,19 @@ fn refused(reply: Reply) -> Understood
         number: 0,
         first: 0,
         second: 0,
-        third: 0,
         count: 0,
     }
 }
 
 // A request: its number, first values and how many ids it lists.
-fn done(number: u32, first: u16, second: u16, third: u16, count: usize) -> Understood
-    ensures { λ r. ⌜ Requests number first second third count r ⌝ }
+fn done(number: u32, first: u16, second: u16, count: usize) -> Understood
+    ensures { λ r. ⌜ Requests number first second count r ⌝ }
 {
     Understood {
         reply: Reply::Done,
         number: number,
         first: first,
         second: second,
-        third: third,
         count: count,
     }
 }
@@ -102,7 +100,6 @@ fn asked(h: Head) -> Understood
         h.number,
         (values[0] % 65536) as u16,
         (values[1] % 65536) as u16,
-        (values[2] % 65536) as u16,
         h.count,
     )
 }

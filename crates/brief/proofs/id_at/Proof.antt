@@ -34,7 +34,7 @@ returns c =
     let s = c .before .before .before .before .before .args .s .now in
     let i = c .before .before .before .before .before .args .i in
     record {
-      least = omega arith;
+      is = omega arith;
       read = λ h. sym (id-is s i (c .before .before .before .before .before .args .low) (search needs) _ _ _ (c .before .before .wide .ensures .0) (search needs) (c .wide2 .ensures .0) refl h .same);
     }
 

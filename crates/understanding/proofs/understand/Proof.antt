@@ -12,10 +12,10 @@ done-requires : tie.Need-done-requires
 done-requires c κs = search needs
 
 returns : tie.Need-returns
-returns c =
+returns c none =
     let a = c .before .before .before .before in
     let os = a .before .args .octets .now in
-    list-asks os (bytes-at os (λ i. omega (arith, a .shared-slice-known .given i))) _ _ _
+    list-asks os (bytes-at os (λ i. omega (arith, a .shared-slice-known .given i))) none _ _ _
     (c .before .before .read-listing .ensures (c .before .if1 .taken)) (search needs) (search needs) (c .done .ensures)
 
 understand-all-requires : tie.Need-understand-all-requires
