@@ -1,18 +1,21 @@
 -- Users: who is attached where, and the connections of a set of users.
 use mathlib.Core.Path.{_≡_, refl, sym, ap, ap₂, _∙_}
-use mathlib.Core.Bool.{Bool, true, false, _&&_, _||_, or-false}
+use mathlib.Core.Bool.{Bool, true, false, _&&_, _||_, and-true, or-false, false≢true}
 use mathlib.Core.List.{List, [], _∷_}
-use Prim.Native.Nat.{ℕ, zero, suc, _+_, _^_, _≤_, _<_, zero-le}
+use Prim.Native.Nat.{ℕ, zero, suc, _+_, _/_, _^_, _≤_, _<_, zero-le}
+use native.Mathlib.Nat.{zero-add}
 use native.Mathlib.Numerals.{add-one}
 use native.Mathlib.Omega.{arith}
-use lib.Dec.{eqb}
+use lib.Count.{trailingZeros, trailing-of-zero}
+use lib.Dec.{eqb, ltb}
 use lib.ListN.{length, getD}
-use borrow.Author.Tests.{eq-eqb, ne-eqb}
-use Rattle.places.specs.Sets.{if_then_else_, any, upto, below, has, with, links, seats, NextIn}
+use borrow.Author.Tests.{eq-eqb, ne-eqb, eqb-true, eqb-false, ltb-true, ltb-false}
+use Rattle.places.specs.Sets.{if_then_else_, any, upto, below, has, with, without, links, seats, NextIn}
 use Rattle.places.specs.Places.{Place, At, Nowhere, find, number}
 use Rattle.places.proofs.Rows.{getD-any}
-use Rattle.places.proofs.Digits.{has-high, has-with, is-those, those-lt}
-use Rattle.places.proofs.Nexts.{next-keeps}
+use Rattle.places.proofs.Digits.{has-high, has-with, has-without, is-those, those-lt}
+use Rattle.places.proofs.Marks.{in-without}
+use Rattle.places.proofs.Nexts.{next-none, next-small, next-found, next-keeps}
 use Rattle.domain.specs.Tables.{Users, users-of, link, attached, hosts}
 
 -- ---- attached on p
@@ -67,7 +70,7 @@ pub record Hosting (us : Users) (who m i : ℕ) : Type 0 where
   pub small : m < 2 ^ links
   pub has-are : (q : ℕ) → q < links → has m q ≡ any (hosted us who q) (below i)
 
-pub hosting-start : (us : Users) (who : ℕ) → Hosting us who 0 0
+hosting-start : (us : Users) (who : ℕ) → Hosting us who 0 0
 unfolding any upto
 hosting-start us who = record { small = omega arith; has-are = λ q h. has-high 0 0 q (omega arith) zero-le }
 
@@ -75,7 +78,7 @@ module _ {us : Users} {who m i : ℕ} (s : Hosting us who m i) where
   hosted-next : (b : Bool) → has who i ≡ b → (q : ℕ) → any (hosted us who q) (below (i + 1)) ≡ (any (hosted us who q) (below i) || (b && eqb (link us i) q))
   hosted-next b e q = rw add-one (any-next (hosted us who q) i ∙ ap (λ (b : Bool). any (hosted us who q) (below i) || (b && eqb (link us i) q)) e)
 
-  pub hosting-with : has who i ≡ true → Hosting us who (with links m (link us i)) (i + 1)
+  hosting-with : has who i ≡ true → Hosting us who (with links m (link us i)) (i + 1)
   hosting-with e = record {
     small = with-lt links m (link us i);
     has-are = λ q h. has-with links (link us i) q h m ∙ ap (λ (b : Bool). b || eqb (link us i) q) (s .has-are q h) ∙ sym (hosted-next true e q);
@@ -87,10 +90,81 @@ module _ {us : Users} {who m i : ℕ} (s : Hosting us who m i) where
     has-are = λ q h. s .has-are q h ∙ sym (hosted-next false e q ∙ or-false (any (hosted us who q) (below i)));
   }
 
-  pub hosting-end : i ≡ seats → m ≡ hosts us who
+  hosting-end : i ≡ seats → m ≡ hosts us who
   unfolding hosts
   hosting-end e = is-those links m _ (s .small) (λ q h. s .has-are q h ∙ ap (λ (n : ℕ). any (hosted us who q) (below n)) e)
 
 -- to the next user of the set
-pub hosting-past : {us : Users} {who m i r : ℕ} → Hosting us who m i → NextIn who i r → i ≤ seats → Hosting us who m r
+hosting-past : {us : Users} {who m i r : ℕ} → Hosting us who m i → NextIn who i r → i ≤ seats → Hosting us who m r
 hosting-past {us} {who} {m} s x l = next-keeps x l (λ (k : ℕ). Hosting us who m k) (λ k a e t. hosting-without t e) s
+
+-- ---- the same loop, which takes each user out of the set
+
+-- the lowest of a set
+module _ (m : ℕ) (l : m < 2 ^ seats) where
+  as-found : 0 + trailingZeros seats (m / 2 ^ 0) ≡ trailingZeros seats m
+  as-found = let whole : m / 2 ^ 0 ≡ m = omega arith in rw whole (zero-add (trailingZeros seats m))
+
+  pub lowest-small : (m ≡ 0 → ⊥) → trailingZeros seats m < seats
+  lowest-small n = rw as-found at (next-small m 0 l (λ z. n (omega arith)))
+
+  lowest : NextIn m 0 (trailingZeros seats m)
+  lowest = go (eqb m 0) refl
+    where
+      go : (b : Bool) → eqb m 0 ≡ b → NextIn m 0 (trailingZeros seats m)
+      go true e = rw (eqb-true m 0 e, trailing-of-zero seats) (next-none 0 0 refl)
+      go false e = rw as-found at (next-found m 0 l (λ z. eqb-false m 0 e (omega arith)))
+
+-- i is the lowest that is left: all from there on are left, and m is the mask of the connections of those before it
+pub record Left (us : Users) (who left m i : ℕ) : Type 0 where
+  pub fits : left < 2 ^ seats
+  pub first : NextIn left 0 i
+  pub before : Hosting us who m i
+  pub same : (k : ℕ) → k < seats → i ≤ k → has who k ≡ has left k
+
+pub left-all : (us : Users) (who : ℕ) → who < 2 ^ seats → Left us who who 0 (trailingZeros seats who)
+left-all us who l = record { fits = l; first = lowest who l; before = hosting-past (hosting-start us who) (lowest who l) zero-le; same = λ k h a. refl }
+
+-- i is taken out, and its connection is marked
+module _ {us : Users} {who left m i : ℕ} (s : Left us who left m i) (h : i < seats) where
+  rest-fits : without seats left i < 2 ^ seats
+  unfolding without
+  rest-fits = those-lt seats _
+
+  abbrev next : ℕ
+  next = trailingZeros seats (without seats left i)
+
+  next-is : NextIn (without seats left i) 0 next
+  next-is = lowest (without seats left i) rest-fits
+
+  pub left-higher : i < next
+  left-higher = go (ltb next seats) refl (ltb next i) refl
+    where
+      go : (b : Bool) → ltb next seats ≡ b → (d : Bool) → ltb next i ≡ d → i < next
+      go false e d f = omega (arith, ltb-false next seats e)
+      go true e d f = further d f (in-without seats left next i (next-is .here (ltb-true next seats e) .1))
+        where
+          further : (d : Bool) → ltb next i ≡ d → (has left next ≡ true) × (next ≡ i → ⊥) → i < next
+          further true f p = absurd (false≢true (sym (s .first .passed next zero-le (ltb-true next i f)) ∙ p .0))
+          further false f p = omega (arith, ltb-false next i f)
+
+  behind : (k : ℕ) → k < seats → i < k → has who k ≡ has (without seats left i) k
+  behind k l a = s .same k l (omega arith) ∙ sym (has-without seats i k l left ∙ rw (ne-eqb i k (λ e. omega arith)) (and-true (has left k)))
+
+  next-of-all : NextIn who (i + 1) next
+  next-of-all = record {
+    within = next-is .within;
+    passed = λ k a b. behind k (omega (arith, next-is .within)) (omega arith) ∙ next-is .passed k zero-le b;
+    here = λ l. (omega (arith, left-higher), behind next l left-higher ∙ next-is .here l .1);
+  }
+
+  pub left-next : Left us who (without seats left i) (with links m (link us i)) next
+  left-next = record {
+    fits = rest-fits;
+    first = next-is;
+    before = hosting-past (hosting-with (s .before) (s .same i h (omega arith) ∙ s .first .here h .1)) next-of-all (omega arith);
+    same = λ k l a. behind k l (omega (arith, left-higher));
+  }
+
+pub left-none : {us : Users} {who left m : ℕ} → Left us who left m (trailingZeros seats left) → left ≡ 0 → m ≡ hosts us who
+left-none s e = hosting-end (s .before) (ap (trailingZeros seats) e ∙ trailing-of-zero seats)

@@ -30,16 +30,17 @@ pub fn add_user(names: &mut [u16; 64], homes: &mut [u8; 64], u: u16, p: u8)
     }
 }
 
-// The connections that have a user of a mask of places.
+// The connections that have a user of a mask of places: the lowest place is taken out of it until none is left.
 pub fn hosts(names: &[u16; 64], homes: &[u8; 64], who: u64) -> u16
     ensures { λ r. ⌜ r ≡ hostsOf (users-of (now (names .entry)) (now (homes .entry))) who ⌝ }
 {
     let at = &homes[..];
     let mut m: u16 = 0;
-    let mut i = masks::next_in(who, 0);
-    while i < 64 {
+    let mut left = who;
+    while left != 0 {
+        let i = u64::trailing_zeros(left) as usize;
         m = masks::with_link(m, at[i]);
-        i = masks::next_in(who, i + 1);
+        left = masks::without_seat(left, i as u8);
     }
     m
 }

@@ -1,59 +1,54 @@
--- The loop goes from one user of the set to the next.
-use mathlib.Core.Bool.{true}
+-- The loop takes the lowest user out of the set.
+use Prim.Native.Nat.{_-_}
 use mathlib.Core.Path.{_≡_}
-use Prim.Native.Nat.{_-_, _≤_, _<_}
 use native.Mathlib.Omega.{arith}
+use lib.Count.{trailingZeros}
 use lib.ListN.{length}
 use borrow.Author.Needs.{needs}
-use Rattle.places.specs.Sets.{has}
-use Rattle.places.proofs.Nexts.{next-behind}
 use Rattle.domain.specs.Tables.{users-of}
-use Rattle.tables.proofs.UserLaws.{Hosting, hosting-start, hosting-with, hosting-past, hosting-end, link-is}
+use Rattle.tables.proofs.UserLaws.{lowest-small, Left, left-all, left-higher, left-next, left-none, link-is}
 use Rattle.tables.proofs.users.hosts.Statement.{statement}
 use Rattle.tables.proofs.users.hosts.Tie as tie
 
 abbrev Inv-loop : tie.InvT-loop
-Inv-loop names homes who at m₀ i₀ m i = (i ≤ 64) × (length homes ≡ 64) × (i < 64 → has who i ≡ true) × Hosting (users-of names homes) who m i
+Inv-loop names homes who at m₀ left₀ m left = (length homes ≡ 64) × Left (users-of names homes) who left m (trailingZeros 64 left)
 
 abbrev μ-loop : tie.MeasureT-loop
-μ-loop names homes who at m₀ i₀ m i = 64 - i
-
-next-in-requires : tie.Need-next-in-requires Inv-loop μ-loop
-next-in-requires c κs = search needs
+μ-loop names homes who at m₀ left₀ m left = 64 - trailingZeros 64 left
 
 loop-holds : tie.Need-loop-holds Inv-loop μ-loop
-loop-holds c = let x = c .next-in .ensures in
-    (x .within, search needs, λ h. x .here h .1, hosting-past (hosting-start _ _) x (omega arith))
+loop-holds c = (search needs, left-all _ _ (search needs))
+
+cast-i : tie.Need-cast-i Inv-loop μ-loop
+cast-i c = omega (arith, lowest-small _ (c .before .loop .inv .1 .fits) (c .loop-test .taken))
 
 shared-slice-read-with-link : tie.Need-shared-slice-read-with-link Inv-loop μ-loop
-shared-slice-read-with-link c = search needs
+shared-slice-read-with-link c = omega (arith, lowest-small _ (c .before .before .loop .inv .1 .fits) (c .before .loop-test .taken))
 
 with-link-requires : tie.Need-with-link-requires Inv-loop μ-loop
 with-link-requires c κs = search needs
 
-add-next-in : tie.Need-add-next-in Inv-loop μ-loop
-add-next-in c = search needs
+cast-without-seat : tie.Need-cast-without-seat Inv-loop μ-loop
+cast-without-seat c = omega (arith, lowest-small _ (c .before .before .before .loop .inv .1 .fits) (c .before .before .loop-test .taken))
 
-next-in-requires-2 : tie.Need-next-in-requires-2 Inv-loop μ-loop
-next-in-requires-2 c κs = search needs
+without-seat-requires : tie.Need-without-seat-requires Inv-loop μ-loop
+without-seat-requires c κs = search needs
 
 loop-less : tie.Need-loop-less Inv-loop μ-loop
-loop-less c = omega (arith, next-behind (c .next-in2 .ensures) (omega arith))
+loop-less c =
+    let b = c .before .before .before .before .loop in
+    let small = lowest-small (b .left) (b .inv .1 .fits) (c .before .before .before .loop-test .taken) in
+    rw (c .without-seat .ensures) (omega (arith, left-higher (b .inv .1) small))
 
 loop-again : tie.Need-loop-again Inv-loop μ-loop
 loop-again c =
-    let a = c .before .before .before .before .before .before .before .args in
+    let a = c .before .before .before .before .before .before .args in
     let b = c .before .before .before .before .loop in
-    let x = c .next-in2 .ensures in (
-      x .within,
-      b .inv .1,
-      λ h. x .here h .1,
-      rw (c .before .with-link .ensures, ← link-is (a .names .now) (a .homes .now) (b .i) (omega arith))
-          (hosting-past (hosting-with (b .inv .3) (b .inv .2 (search needs))) x (omega arith)),
-    )
+    let small = lowest-small (b .left) (b .inv .1 .fits) (c .before .before .before .loop-test .taken) in
+    (b .inv .0, rw (c .without-seat .ensures, c .before .with-link .ensures, ← link-is (a .names .now) (a .homes .now) (trailingZeros 64 (b .left)) (omega arith)) (left-next (b .inv .1) small))
 
 returns : tie.Need-returns Inv-loop μ-loop
-returns c = hosting-end (c .before .loop .inv .3) (omega arith)
+returns c = left-none (c .before .loop .inv .1) (search needs)
 
 pub hosts-spec : {M : Type 1} → statement M
 hosts-spec =
@@ -61,12 +56,12 @@ hosts-spec =
     (tie.spec
     Inv-loop
     μ-loop
-    next-in-requires
     loop-holds
+    cast-i
     shared-slice-read-with-link
     with-link-requires
-    add-next-in
-    next-in-requires-2
+    cast-without-seat
+    without-seat-requires
     loop-less
     loop-again
     returns)
