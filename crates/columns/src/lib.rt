@@ -236,9 +236,8 @@ fn in_row(ids: &[u16]) -> usize
 }
 
 // The mark of an id in the mask of the 64 ids above `low`: none where it is not one of them. A choice, and no branch.
-fn mark(low: u16, x: u16) -> u64
-    requires { ⌜ low + 64 ≤ 65535 ⌝ }
-    ensures { λ r. ⌜ r ≡ marked low (x ∷ []) ⌝ }
+pub fn mark(low: u16, x: u16) -> u64
+    ensures { λ r. ⌜ (low + 64 ≤ 65535 → r ≡ marked low (x ∷ [])) ⌝ }
 {
     let k = behind(low, x);
     if k < 64 { 1u64 << k } else { 0 }

@@ -1,48 +1,22 @@
 -- The ids of channels that end as marks: with one more, and a walk over a column that marks those that it picks.
 use mathlib.Core.Path.{_≡_, refl, sym, _∙_}
-use mathlib.Core.Bool.{Bool, true, false, _&&_, _||_, or-false}
+use mathlib.Core.Bool.{Bool, true, false, _||_, or-false}
 use mathlib.Core.List.{List, [], _∷_, _++_}
-use Prim.Native.Nat.{ℕ, _+_, _-_, _*_, _%_, _^_, _≤_, _<_}
-use native.Mathlib.Nat.{mod-eq-of-lt}
+use Prim.Native.Nat.{ℕ, _+_, _≤_, _<_}
 use native.Mathlib.Numerals.{add-one}
 use native.Mathlib.Omega.{arith}
-use lib.Dec.{ltb, leb}
 use lib.ListN.{length, getD, take}
 use lib.Seq.{take-suc, take-all}
-use borrow.Author.Tests.{ne-eqb, ltb-true, ltb-false, leb-true, leb-false}
+use borrow.Author.Tests.{ne-eqb}
 use Rattle.places.specs.Sets.{if_then_else_, any, member, union, marked, seats}
 use Rattle.places.specs.Places.{picked}
-use Rattle.places.proofs.Bools.{and-parts}
 use Rattle.places.proofs.Below.{across}
 use Rattle.places.proofs.Digits.{is-those, those-lt, or-union}
 use Rattle.places.proofs.Members.{member-append}
-use Rattle.places.proofs.Gaps.{has-marked, marked-lt, marked-append, marked-none, mark-near, mark-far}
+use Rattle.places.proofs.Gaps.{has-marked, marked-lt, marked-append, marked-none}
 use Rattle.places.proofs.Kept.{picked-length, picked-at}
 use Rattle.farewell.specs.declared.Ending.{Ending}
 use Rattle.farewell.specs.Endings.{other, Marks}
-
--- ---- the mark of one id
-
-module _ (low c : ℕ) where
-  pub among : (ltb low c && leb c (low + 64)) ≡ true → (low < c) × (c ≤ low + 64)
-  among e = let r = and-parts (ltb low c) (leb c (low + 64)) e in (ltb-true low c (r .0), leb-true c (low + 64) (r .1))
-
-  module _ (room : low + 64 ≤ 65535) where
-    pub mark-one : (ltb low c && leb c (low + 64)) ≡ true → (1 * 2 ^ ((c - low - 1) % 64)) % 2 ^ 64 ≡ marked low (c ∷ [])
-    mark-one e =
-        let h = among e in
-        let z : (c - low - 1) % 64 ≡ c - low - 1 = mod-eq-of-lt (omega (arith, h)) in
-        rw z (mark-near low c (c - low - 1) room (λ l. omega arith) (λ l. absurd (omega (arith, h))) (omega (arith, h)))
-
-    pub mark-none : (ltb low c && leb c (low + 64)) ≡ false → 0 ≡ marked low (c ∷ [])
-    mark-none e = go (ltb low c) refl e
-      where
-        go : (b : Bool) → ltb low c ≡ b → (b && leb c (low + 64)) ≡ false → 0 ≡ marked low (c ∷ [])
-        go true q f =
-            let l = ltb-true low c q in
-            let h = leb-false c (low + 64) f in
-            mark-far low c (c - low - 1) room (λ z. omega arith) (λ z. absurd (omega arith)) (omega arith)
-        go false q f = let l = ltb-false low c q in mark-far low c (65535 - low) room (λ z. absurd (omega arith)) (λ z. omega arith) (omega arith)
 
 -- ---- one list behind another
 

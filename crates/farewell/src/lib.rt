@@ -112,26 +112,13 @@ fn if_ends(ends: bool, c: u16) -> u16
     if ends { c } else { 0 }
 }
 
-// The mark of an id among the 64 above `low`: none where it is not one of them. A choice too.
-fn mark(low: u16, c: u16) -> u64
-    requires { ⌜ low + 64 ≤ 65535 ⌝ }
-    ensures { λ r. ⌜ r ≡ marked low (c ∷ []) ⌝ }
-{
-    let here = (low < c) & (c <= low + 64);
-    if here {
-        1u64 << ((c - low - 1) % 64)
-    } else {
-        0
-    }
-}
-
 // With channel c; 0 is none.
 fn with_end(e: Ending, c: u16) -> Ending
     ensures { λ r. ⌜ ((xs : List ℕ) → Marks xs e → Marks (xs ++ c ∷ []) r) ⌝ }
 {
     Ending {
-        low: masks::all_seats(e.low, mark(1000, c)),
-        high: masks::all_seats(e.high, mark(1064, c)),
+        low: masks::all_seats(e.low, columns::mark(1000, c)),
+        high: masks::all_seats(e.high, columns::mark(1064, c)),
         beyond: e.beyond | ((0 < c) & ((c < 1001) | (1128 < c))),
     }
 }

@@ -17,13 +17,13 @@ returns : tie.Need-returns
 returns c =
     let a = c .before .before .args in
     let b = c .before .behind in
-    mark-near (a .low) (a .x) (b .result) (search needs) (b .ensures .0) (b .ensures .1) (search needs)
+    λ room. mark-near (a .low) (a .x) (b .result) room (b .ensures .0) (b .ensures .1) (search needs)
 
 returns-2 : tie.Need-returns-2
 returns-2 c =
     let a = c .before .before .args in
     let b = c .before .behind in
-    mark-far (a .low) (a .x) (b .result) (search needs) (b .ensures .0) (b .ensures .1) (search needs)
+    λ room. mark-far (a .low) (a .x) (b .result) room (b .ensures .0) (b .ensures .1) (search needs)
 
 pub mark-spec : {M : Type 1} → statement M
 mark-spec = tie.close (tie.spec behind-requires cast-result shl-result returns returns-2)

@@ -38,7 +38,7 @@ loop-again : tie.Need-loop-again Inv-loop μ-loop
 loop-again c =
     let b = c .before .before .before .loop in
     let a = c .before .before .before .before .before .args in
-    (search needs, rw add-one (ap₂ bitOr (b .inv .1) (c .mark .ensures) ∙ marked-one (a .low) (a .ids .now) (b .i) (search needs)))
+    (search needs, rw add-one (ap₂ bitOr (b .inv .1) (c .mark .ensures (search needs)) ∙ marked-one (a .low) (a .ids .now) (b .i) (search needs)))
 
 returns : tie.Need-returns Inv-loop μ-loop
 returns c = c .before .loop .inv .1 ∙ marked-end (c .before .before .before .args .low) (c .before .before .before .args .ids .now) (c .before .loop .i) (search needs)

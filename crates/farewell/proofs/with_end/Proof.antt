@@ -18,8 +18,8 @@ all-seats-requires-2 : tie.Need-all-seats-requires-2
 all-seats-requires-2 c κs = search needs
 
 returns : tie.Need-returns
-returns c = λ xs h. marks-more (c .before .before .before .before .before .args .c) h (c .before .before .before .all-seats .ensures ∙ rw (c .before .before .before .before .mark .ensures) refl)
-    (c .before .all-seats2 .ensures ∙ rw (c .before .before .mark2 .ensures) refl) refl
+returns c = λ xs h. marks-more (c .before .before .before .before .before .args .c) h (c .before .before .before .all-seats .ensures ∙ rw (c .before .before .before .before .mark .ensures (search needs)) refl)
+    (c .before .all-seats2 .ensures ∙ rw (c .before .before .mark2 .ensures (search needs)) refl) refl
 
 pub with-end-spec : {M : Type 1} → statement M
 with-end-spec =
