@@ -1,19 +1,17 @@
 -- CLrq: whether p had joined a listed channel, and what becomes of one place. Assumes nothing.
 use mathlib.Core.Path.{_≡_, refl, sym, ap, _∙_}
-use mathlib.Core.Bool.{Bool, true, false, not, _&&_, true≢false}
+use mathlib.Core.Bool.{Bool, true, false, _&&_}
 use mathlib.Core.List.{List}
 use mathlib.Core.Option.{none, some}
-use Prim.Native.Nat.{ℕ, _+_, _^_, _≤_, _<_}
+use Prim.Native.Nat.{ℕ, _+_, _≤_, _<_}
 use native.Mathlib.Numerals.{add-one}
 use native.Mathlib.Omega.{arith}
-use borrow.Author.Tests.{eqb-true, not-true, eq-eqb, ne-eqb}
+use borrow.Author.Tests.{eq-eqb, ne-eqb}
 use lib.Dec.{eqb}
 use lib.ListN.{length, getD, take, drop, drop-of-length-le}
 use lib.Seq.{drop-cons}
 use Rattle.places.specs.Sets.{if_then_else_, any, member, has, without, links}
 use Rattle.places.specs.Places.{Place, At, Nowhere, find, load}
-use Rattle.places.proofs.Bools.{and-parts}
-use Rattle.places.proofs.Digits.{is-those}
 use Rattle.places.proofs.Marks.{has-none}
 use Rattle.domain.specs.declared.channel.Channel.{Channel}
 use Rattle.domain.specs.Cells.{no-channel, kind, with-marks}
@@ -56,33 +54,11 @@ pub ends-not : (b : Bool) (left : ℕ) → (left ≡ 0 → ⊥) → false ≡ (b
 ends-not true left e = sym (ne-eqb left 0 e)
 ends-not false left e = refl
 
--- ---- a mask without one that it has not
-without-absent : (w m k : ℕ) → m < 2 ^ w → has m k ≡ false → without w m k ≡ m
-unfolding without
-without-absent w m k h e = sym (is-those w m _ h λ j l. go j (eqb j k) refl (has m j) refl)
-  where
-    go : (j : ℕ) (b : Bool) → eqb j k ≡ b → (d : Bool) → has m j ≡ d → d ≡ (d && not b)
-    go j b q false r = refl
-    go j false q true r = refl
-    go j true q true r = absurd (true≢false (sym r ∙ ap (has m) (eqb-true j k q) ∙ e))
-
 -- ---- one place
 module _ (p : ℕ) (listed : List ℕ) (c : ℕ) (at : Channel) where
   pub left-other : member c listed ≡ false → left p listed c at ≡ some at
   unfolding left
   left-other e = rw e refl
-
-  -- others have joined it and p has not
-  pub left-apart : at .marks < 2 ^ links → (not (eqb (at .marks) 0) && not (has (at .marks) p)) ≡ true → left p listed c at ≡ some at
-  unfolding left marked with-marks
-  left-apart h e =
-      let t = and-parts (not (eqb (at .marks) 0)) (not (has (at .marks) p)) e in
-      rw (without-absent links (at .marks) p h (not-true (has (at .marks) p) (t .1)), not-true (eqb (at .marks) 0) (t .0)) (go (member c listed) (lapses (kind at)))
-    where
-      go : (b d : Bool) → (if b then (if d && false then none else some at) else some at) ≡ some at
-      go true true = refl
-      go true false = refl
-      go false d = refl
 
   -- where the code found the channel ch, without p it has the marks m and ends or not
   module _ (e : member c listed ≡ true) (ch : Channel) (x : ch ≡ at) (m : ℕ) (y : m ≡ without links (ch .marks) p) (r : Bool) (z : r ≡ (lapses (kind ch) && eqb m 0)) where

@@ -1,13 +1,13 @@
 // Requests about users and channels, on lent columns: AUrq, CJrq, CLrq. Each decides, sends where there is room, then stores.
 ghost use mathlib.Core.Path.{_≡_};
-ghost use mathlib.Core.Bool.{not, _&&_};
+ghost use mathlib.Core.Bool.{_&&_};
 ghost use mathlib.Core.List.{List, [], _∷_};
 ghost use mathlib.Core.Option.{some};
-ghost use Prim.Native.Nat.{ℕ, _^_, _<_};
+ghost use Prim.Native.Nat.{ℕ, _<_};
 ghost use lib.Dec.{eqb};
-ghost use lib.ListN.{take, length, getD};
+ghost use lib.ListN.{take, length};
 ghost use Rattle.messages.specs.Named.{CJcf, successful};
-ghost use Rattle.places.specs.Sets.{any, has, only, links as allLinks};
+ghost use Rattle.places.specs.Sets.{any, only, links as allLinks};
 ghost use Rattle.places.specs.Swept.{Turns, anywhere};
 ghost use Rattle.records.specs.Records.{to};
 ghost use Rattle.domain.specs.Cells.{no-channel, kind, channel-of};
@@ -249,29 +249,7 @@ fn ends(ch: Channel, left: u16) -> bool
     false
 }
 
-// Others have joined the channel at place j, and p has not: so it stays as it is, listed or not.
-fn others_only(
-    roles: &[u8; 128],
-    chairs: &[u8; 128],
-    guests: &[u64; 128],
-    marks: &[u16; 128],
-    p: u8,
-    j: usize,
-) -> bool
-    requires { ⌜ j < 128 ⌝ }
-    ensures { λ r. ⌜ (r ≡ (not (eqb (getD (channel-cells (now (roles .entry)) (now (chairs .entry)) (now (guests .entry)) (now (marks .entry))) j no-channel .marks) 0)
-        && not (has (getD (channel-cells (now (roles .entry)) (now (chairs .entry)) (now (guests .entry)) (now (marks .entry))) j no-channel .marks) p)))
-        × (getD (channel-cells (now (roles .entry)) (now (chairs .entry)) (now (guests .entry)) (now (marks .entry))) j no-channel .marks < 2 ^ allLinks) ⌝ }
-{
-    let rs = &roles[..];
-    let cs = &chairs[..];
-    let gs = &guests[..];
-    let ms = &marks[..];
-    let m = ms[j];
-    (m != 0) & !masks::has(m as u64, p)
-}
-
-// p leaves the channel at place j, where that is listed. The list is the dear part, and is looked at last.
+// p leaves the channel at place j, where that is listed.
 fn leave_at(
     ids: &mut [u16; 128],
     roles: &mut [u8; 128],
@@ -289,9 +267,6 @@ fn leave_at(
 {
     let c = ids[j];
     if c == 0 {
-        return;
-    }
-    if others_only(roles, chairs, guests, marks, p, j) {
         return;
     }
     if columns::member(listed, c) {

@@ -5,7 +5,7 @@ use Rattle.places.proofs.Sweeps.{turn-free, turn-keeps}
 use Rattle.domain.specs.Cells.{no-channel}
 use Rattle.domain.specs.Channels.{left}
 use Rattle.tables.proofs.ChannelSweeps.{channel-ends, channel-stays}
-use Rattle.channels.proofs.Parting.{left-apart, left-other, left-ends, left-stays}
+use Rattle.channels.proofs.Parting.{left-other, left-ends, left-stays}
 use Rattle.channels.proofs.leave_at.Statement.{statement}
 use Rattle.channels.proofs.leave_at.Tie as tie
 
@@ -17,15 +17,6 @@ element-copy-out-c c = search needs
 
 returns : tie.Need-returns
 returns c = let a = c .before .before .before .args in turn-free no-channel (anywhere (left (a .p) (a .listed .now))) _ _ _ (c .if1 .taken)
-
-others-only-requires : tie.Need-others-only-requires
-others-only-requires c κs = search needs
-
-returns-2 : tie.Need-returns-2
-returns-2 c =
-    let a = c .before .before .before .before .before .before .before .before .before .args in
-    let o = c .before .others-only .ensures in
-    turn-keeps no-channel (anywhere (left (a .p) (a .listed .now))) _ _ _ (c .before .before .before .before .before .before .if1 .left) (left-apart (a .p) (a .listed .now) _ _ (o .1) (sym (o .0) ∙ c .if2 .taken))
 
 member-requires : tie.Need-member-requires
 member-requires c κs = tt
@@ -42,35 +33,35 @@ ends-requires c κs = tt
 end-channel-requires : tie.Need-end-channel-requires
 end-channel-requires c κs = tt
 
-returns-3 : tie.Need-returns-3
-returns-3 c =
-    let a = c .before .before .before .before .before .before .before .before .before .before .before .before .before .before .before .before .before .before .before .before .before .before .before .before .before .args in
+returns-2 : tie.Need-returns-2
+returns-2 c =
+    let a = c .before .before .before .before .before .before .before .before .before .before .before .before .before .before .before .before .before .before .before .args in
     let f = left (a .p) (a .listed .now) in
     let found = c .before .before .before .before .before .before .before .before .before .channel-at in
     let less = c .before .before .before .before .before .before .before .before .without-link in
     let ends = c .before .before .before .before .before .before .before .ends in
-    channel-ends f (a .j) (a .ids .now) (a .roles .now) (a .chairs .now) (a .guests .now) (a .marks .now) _ _ _ _ _ (c .before .before .before .before .before .before .before .before .before .before .before .before .before .before .before .before .before .before .before .before .before .before .if1 .left)
-    (left-ends (a .p) (a .listed .now) _ _ (sym (c .before .before .before .before .before .before .before .before .before .before .before .before .before .before .before .member .ensures) ∙ c .before .before .before .before .before .before .before .before .before .before .before .before .before .before .if3 .taken) (found .result) (found .ensures) (less .result) (less .ensures) (ends .result) (ends .ensures) (c .before .before .before .before .before .before .if4 .taken))
+    channel-ends f (a .j) (a .ids .now) (a .roles .now) (a .chairs .now) (a .guests .now) (a .marks .now) _ _ _ _ _ (c .before .before .before .before .before .before .before .before .before .before .before .before .before .before .before .before .if1 .left)
+    (left-ends (a .p) (a .listed .now) _ _ (sym (c .before .before .before .before .before .before .before .before .before .before .before .before .before .before .before .member .ensures) ∙ c .before .before .before .before .before .before .before .before .before .before .before .before .before .before .if2 .taken) (found .result) (found .ensures) (less .result) (less .ensures) (ends .result) (ends .ensures) (c .before .before .before .before .before .before .if3 .taken))
     (c .end-channel .ensures)
 
 set-channel-requires : tie.Need-set-channel-requires
 set-channel-requires c κs = tt
 
-returns-4 : tie.Need-returns-4
-returns-4 c =
-    let a = c .before .before .before .before .before .before .before .before .before .before .before .before .before .before .before .before .before .before .before .before .before .before .before .before .args in
+returns-3 : tie.Need-returns-3
+returns-3 c =
+    let a = c .before .before .before .before .before .before .before .before .before .before .before .before .before .before .before .before .before .before .args in
     let f = left (a .p) (a .listed .now) in
     let found = c .before .before .before .before .before .before .before .before .channel-at in
     let less = c .before .before .before .before .before .before .before .without-link in
     let ends = c .before .before .before .before .before .before .ends in
-    channel-stays f (a .j) (a .ids .now) (a .roles .now) (a .chairs .now) (a .guests .now) (a .marks .now) (a .ids .now) _ _ _ _ (c .before .before .before .before .before .before .before .before .before .before .before .before .before .before .before .before .before .before .before .before .before .if1 .left) _
-    (left-stays (a .p) (a .listed .now) _ _ (sym (c .before .before .before .before .before .before .before .before .before .before .before .before .before .before .member .ensures) ∙ c .before .before .before .before .before .before .before .before .before .before .before .before .before .if3 .taken) (found .result) (found .ensures) (less .result) (less .ensures) (ends .result) (ends .ensures) (c .before .before .before .before .before .if4 .left))
+    channel-stays f (a .j) (a .ids .now) (a .roles .now) (a .chairs .now) (a .guests .now) (a .marks .now) (a .ids .now) _ _ _ _ (c .before .before .before .before .before .before .before .before .before .before .before .before .before .before .before .if1 .left) _
+    (left-stays (a .p) (a .listed .now) _ _ (sym (c .before .before .before .before .before .before .before .before .before .before .before .before .before .before .member .ensures) ∙ c .before .before .before .before .before .before .before .before .before .before .before .before .before .if2 .taken) (found .result) (found .ensures) (less .result) (less .ensures) (ends .result) (ends .ensures) (c .before .before .before .before .before .if3 .left))
     (c .set-channel .ensures)
 
-returns-5 : tie.Need-returns-5
-returns-5 c =
-    let a = c .before .before .before .before .before .before .before .before .before .before .before .args in
-    turn-keeps no-channel (anywhere (left (a .p) (a .listed .now))) _ _ _ (c .before .before .before .before .before .before .before .before .if1 .left) (left-other (a .p) (a .listed .now) _ _ (sym (c .before .member .ensures) ∙ c .if3 .left))
+returns-4 : tie.Need-returns-4
+returns-4 c =
+    let a = c .before .before .before .before .before .args in
+    turn-keeps no-channel (anywhere (left (a .p) (a .listed .now))) _ _ _ (c .before .before .if1 .left) (left-other (a .p) (a .listed .now) _ _ (sym (c .before .member .ensures) ∙ c .if2 .left))
 
 pub leave-at-spec : {M : Type 1} → statement M
 leave-at-spec =
@@ -79,14 +70,12 @@ leave-at-spec =
     mul-c
     element-copy-out-c
     returns
-    others-only-requires
-    returns-2
     member-requires
     channel-at-requires
     without-link-requires
     ends-requires
     end-channel-requires
-    returns-3
+    returns-2
     set-channel-requires
-    returns-4
-    returns-5)
+    returns-3
+    returns-4)

@@ -1,5 +1,6 @@
-use mathlib.Core.Path.{_∙_}
-use Rattle.domain.proofs.Turning.{not-true, not-false, shut-loses, open-loses}
+use mathlib.Core.Path.{sym, _∙_}
+use mathlib.Core.Bool.{true≢false}
+use Rattle.domain.proofs.Turning.{not-true, not-false, shut-loses}
 use borrow.Author.Needs.{needs}
 use Rattle.provider.proofs.lose.Statement.{statement}
 use Rattle.provider.proofs.lose.Tie as tie
@@ -10,14 +11,27 @@ is-open-requires c κs = search needs
 returns : tie.Need-returns
 returns c = λ l. shut-loses _ (c .before .before .before .before .args .p) _ _ (c .before .is-open .ensures) (not-true _ (c .if1 .taken))
 
-depart-requires : tie.Need-depart-requires
-depart-requires c κs = search needs
+slice-aggregate-long-event : tie.Need-slice-aggregate-long-event
+slice-aggregate-long-event c = search needs
+
+long-event-requires : tie.Need-long-event-requires
+long-event-requires c κs =
+    let i = c .before .before .before .before .before .before .before .before .before .before .before .before .before in
+    (sym (i .before .is-open .ensures) ∙ not-false _ (i .if1 .left), λ e. absurd (true≢false e))
 
 same-length : tie.Need-same-length
 same-length c = search needs
 
 returns-2 : tie.Need-returns-2
-returns-2 c = λ l. c .before .before .depart .ensures l ∙ open-loses _ (c .before .before .before .before .before .before .before .before .before .before .before .before .before .before .before .before .before .before .before .before .args .p) _ _ (c .before .before .before .before .before .before .before .before .before .before .before .before .before .before .before .before .before .is-open .ensures) (not-false _ (c .before .before .before .before .before .before .before .before .before .before .before .before .before .before .before .before .if1 .left))
+returns-2 c = search needs
 
 pub lose-spec : {M : Type 1} → statement M
-lose-spec = tie.close (tie.spec is-open-requires returns depart-requires same-length returns-2)
+lose-spec =
+    tie.close
+    (tie.spec
+    is-open-requires
+    returns
+    slice-aggregate-long-event
+    long-event-requires
+    same-length
+    returns-2)
