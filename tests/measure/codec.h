@@ -5,8 +5,7 @@
 #include <stddef.h>
 #include <stdint.h>
 
-uint32_t read_brief(const uint8_t *octets, size_t length, uint16_t values[3]);
-uint32_t read_listed(const uint8_t *octets, size_t length, uint16_t values[3], uint16_t list[64]);
+uint32_t read_quick(const uint8_t *octets, size_t length, uint16_t values[3], uint16_t list[64]);
 uint32_t read_any(const uint8_t *octets, size_t length, uint32_t values[6], uint16_t list[64]);
 uint32_t write_brief(uint8_t *room, size_t length, uint32_t number, uint32_t result, uint32_t user, uint32_t token, uint32_t status);
 uint32_t write_any(uint8_t *room, size_t length, uint32_t number, uint32_t result, uint32_t user, uint32_t token, uint32_t status);
@@ -20,15 +19,16 @@ static struct {
     uint32_t any[6];
 } heard;
 
+/* DUrq, CLrq, CArq and CErq: their third cell counts the ids. */
+static inline int has_list(uint32_t number) { return number == 12 || number == 16 || number == 21 || number == 23; }
+
 static inline void read_message(const uint8_t *octets, size_t length)
 {
     heard.count = heard.refusal = 0;
-    heard.number = read_brief(octets, length, heard.values);
-    if (heard.number != NOT_READ)
-        return;
-    heard.number = read_listed(octets, length, heard.values, heard.list);
+    heard.number = read_quick(octets, length, heard.values, heard.list);
     if (heard.number != NOT_READ) {
-        heard.count = heard.values[2];
+        if (has_list(heard.number))
+            heard.count = heard.values[2];
         return;
     }
     heard.count = read_any(octets, length, heard.any, heard.list);

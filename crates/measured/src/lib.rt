@@ -1,23 +1,27 @@
-// The codec for a C program to time and compare: each way of reading and of writing that the provider has, one function a way. What a way does not
-// read or write goes by the next.
+// The codec for a C program to time and compare: the ways of reading and of writing that the provider has, the short ones before the table of messages.
+// What a function does not read or write goes by the next.
 
-// The number of a message that a way has not read.
+// The number of a message that no short way has read.
 const NOT_READ: u32 = 64;
 
-// A message of a few ids, the short way: its number, and its values in the cells lent; 64 where it is no such message.
+// A message by the short ways, as the provider tries them: its number; in the cells lent its values in the message's order, or, where it has a list of
+// ids, the values before the list and how many ids, which go into the list lent. 64 where no short way reads it.
 #[no_mangle]
-pub extern "C" fn read_brief(s: &[u8], values: &mut [u16; 3]) -> u32 {
+pub extern "C" fn read_quick(s: &[u8], values: &mut [u16; 3], list: &mut [u16; 64]) -> u32 {
+    let w = brief::tokens::read_token(s);
+    if w.ok {
+        if w.number == 35 {
+            *values = [w.more, w.user, w.token];
+        } else {
+            *values = [w.user, w.token, w.more];
+        }
+        return w.number;
+    }
     let q = brief::read_short(s);
     if q.ok {
-        *values = [q.first, q.second, q.third];
+        *values = [q.first, q.second, 0];
         return q.number;
     }
-    NOT_READ
-}
-
-// A message with a list of ids, straight into the list lent: its number, the values before the list, and how many ids; 64 where it is no such message.
-#[no_mangle]
-pub extern "C" fn read_listed(s: &[u8], values: &mut [u16; 3], list: &mut [u16; 64]) -> u32 {
     let l = brief::lists::read_listing(s, list);
     if l.ok {
         *values = [l.first, l.second, (l.count % 65536) as u16];
