@@ -305,7 +305,7 @@ static void compare_reading(void)
         if (heard.refusal)
             continue;
         read++;
-        if (m.number != heard.number || !same_values(&m) || (k != 9 && (m.count != heard.count || memcmp(m.list, heard.list, 2 * heard.count))))
+        if (m.number != heard.number || !same_values(&m) || (k != 9 && (m.count != heard_count() || memcmp(m.list, heard.list, 2 * m.count))))
             fail("what is read", i);
     }
     printf("compared: %zu messages read, no difference\n", read);

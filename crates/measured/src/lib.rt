@@ -10,11 +10,7 @@ const NOT_READ: u32 = 64;
 pub extern "C" fn read_quick(s: &[u8], values: &mut [u16; 3], list: &mut [u16; 64]) -> u32 {
     let w = brief::tokens::read_token(s);
     if w.ok {
-        if w.number == 35 {
-            *values = [w.more, w.user, w.token];
-        } else {
-            *values = [w.user, w.token, w.more];
-        }
+        *values = in_order(w.number == 35, w.user, w.token, w.more);
         return w.number;
     }
     let q = brief::read_short(s);
@@ -28,6 +24,14 @@ pub extern "C" fn read_quick(s: &[u8], values: &mut [u16; 3], list: &mut [u16; 6
         return l.number;
     }
     NOT_READ
+}
+
+// The values of a request about a token in the message's order: a TVrs, 35, has its result first.
+fn in_order(result_first: bool, user: u16, token: u16, more: u16) -> [u16; 3] {
+    if result_first {
+        return [more, user, token];
+    }
+    [user, token, more]
 }
 
 // Any message, by the table of messages: how many ids it lists; in the cells lent its number, its values, and the refusal behind them.
