@@ -80,7 +80,7 @@ fn put_ended(
                 let held = tables::users::hosts(names, homes, masks::with_seat(guests, g));
                 let told = masks::common_links(held, live);
                 let m = compose::disband_indication(c);
-                return records::tell_three(out, at, told, &m);
+                return records::tell(out, at, told, &m);
             }
             at
         }

@@ -2,7 +2,7 @@
 pub mod lists;
 
 ghost use mathlib.Core.Path.{_≡_};
-ghost use Prim.Native.Nat.{ℕ, _-_, _≤_, _<_, min};
+ghost use Prim.Native.Nat.{ℕ, _+_, _-_, _≤_, _<_, min};
 ghost use lib.ListN.{length, set};
 ghost use Rattle.messages.specs.Limits.{message-limit};
 ghost use Rattle.records.specs.Records.{two, framed};
@@ -134,11 +134,32 @@ fn least_of(a: usize, b: usize) -> usize
     if a < b { a } else { b }
 }
 
-// A record into the part of the room behind a place, which may lie behind its end.
+// The record of a message of three octets, for which there is room: its seven octets are stored together.
+fn lay_three(out: &mut [u8], at: usize, q: u8, m: &[u8])
+    requires { ⌜ (length (now m) ≡ 3) × (at + 7 ≤ length (now out)) ⌝ }
+    ensures { λ _. ⌜ Puts (now (out .entry)) at (framed (now (m .entry)) q) (now (out .exit)) (at + 7) ⌝ }
+{
+    out[at] = 0;
+    out[at + 1] = 5;
+    out[at + 2] = 1;
+    out[at + 3] = q;
+    out[at + 4] = m[0];
+    out[at + 5] = m[1];
+    out[at + 6] = m[2];
+}
+
+// A record into the part of the room behind a place, which may lie behind its end. A CDin, of which there may be many, has three octets.
 fn lay_record(out: &mut [u8], at: usize, q: u8, m: &[u8]) -> usize
     requires { ⌜ (at ≤ 100000) × (length (now m) ≤ message-limit) ⌝ }
     ensures { λ r. ⌜ Puts (now (out .entry)) at (framed (now (m .entry)) q) (now (out .exit)) r ⌝ }
 {
+    if m.len() == 3 {
+        let end = at + 7;
+        if end <= out.len() {
+            lay_three(out, at, q, m);
+            return end;
+        }
+    }
     let from = least_of(at, out.len());
     at + put_record(&mut out[from..], q, m)
 }
@@ -180,50 +201,6 @@ pub fn tell(out: &mut [u8], at: usize, mask: u16, m: &[u8]) -> usize
 {
     if allowed(at, m.len()) {
         return tell_all(out, at, mask, m);
-    }
-    at
-}
-
-// The record of a message of three octets: where there is room for its seven octets, they are stored together.
-fn lay_three(out: &mut [u8], at: usize, q: u8, m: &[u8; 3]) -> usize
-    requires { ⌜ at ≤ 100000 ⌝ }
-    ensures { λ r. ⌜ Puts (now (out .entry)) at (framed (now (m .entry)) q) (now (out .exit)) r ⌝ }
-{
-    let end = at + m[..].len() + 4;
-    if end <= out.len() {
-        out[at] = 0;
-        out[at + 1] = 5;
-        out[at + 2] = 1;
-        out[at + 3] = q;
-        out[at + 4] = m[0];
-        out[at + 5] = m[1];
-        out[at + 6] = m[2];
-        return end;
-    }
-    lay_record(out, at, q, m)
-}
-
-// A message of three octets to each connection of a mask, ascending.
-fn tell_threes(out: &mut [u8], from: usize, mask: u16, m: &[u8; 3]) -> usize
-    requires { ⌜ (from ≤ 65535) × (length (now m) ≤ message-limit) ⌝ }
-    ensures { λ r. ⌜ Puts (now (out .entry)) from (told mask (now (m .entry))) (now (out .exit)) r ⌝ }
-{
-    let all = mask as u64;
-    let mut at = from;
-    let mut link = masks::next_in(all, 0);
-    while link < 16 {
-        at = lay_three(out, at, link as u8, m);
-        link = masks::next_in(all, link + 1);
-    }
-    at
-}
-
-// `tell` for a message of three octets.
-pub fn tell_three(out: &mut [u8], at: usize, mask: u16, m: &[u8; 3]) -> usize
-    ensures { λ r. ⌜ Puts (now (out .entry)) at (guarded at (now (m .entry)) (told mask (now (m .entry)))) (now (out .exit)) r ⌝ }
-{
-    if allowed(at, m[..].len()) {
-        return tell_threes(out, at, mask, m);
     }
     at
 }

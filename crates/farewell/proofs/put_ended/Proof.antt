@@ -24,8 +24,11 @@ common-links-requires c κs = search needs
 disband-indication-requires : tie.Need-disband-indication-requires
 disband-indication-requires c κs = search needs
 
-tell-three-requires : tie.Need-tell-three-requires
-tell-three-requires c κs = search needs
+slice-aggregate-tell : tie.Need-slice-aggregate-tell
+slice-aggregate-tell c = search needs
+
+tell-requires : tie.Need-tell-requires
+tell-requires c κs = search needs
 
 same-length : tie.Need-same-length
 same-length c = search needs
@@ -33,7 +36,7 @@ same-length c = search needs
 returns : tie.Need-returns
 returns c = rw (c .before .before .before .before .before .before .before .before .before .before .before .before .k .given .1)
     (ended-some _ _ _ _ _ _ (sym (c .before .before .before .before .before .before .before .before .before .before .has .ensures) ∙ c .before .before .before .before .before .before .before .before .before .if1 .taken) (c .before .before .before .before .before .disband-indication .ensures) (c .before .before .before .before .before .before .before .before .before .before .before .before .before .before .before .pre) (c .before .before .before .before .before .before .common-links .result)
-    (rw (← c .before .before .before .before .before .before .before .before .with-seat .ensures, ← c .before .before .before .before .before .before .before .hosts .ensures) (c .before .before .before .before .before .before .common-links .ensures)) (c .before .before .tell-three .ensures))
+    (rw (← c .before .before .before .before .before .before .before .before .with-seat .ensures, ← c .before .before .before .before .before .before .before .hosts .ensures) (c .before .before .before .before .before .before .common-links .ensures)) (c .before .before .tell .ensures))
 
 enum-told : tie.Need-enum-told
 enum-told c = search needs
@@ -69,7 +72,8 @@ put-ended-spec =
     hosts-requires
     common-links-requires
     disband-indication-requires
-    tell-three-requires
+    slice-aggregate-tell
+    tell-requires
     same-length
     returns
     enum-told

@@ -4,6 +4,18 @@ use borrow.Author.Needs.{needs}
 use Rattle.records.proofs.lay_record.Statement.{statement}
 use Rattle.records.proofs.lay_record.Tie as tie
 
+add-end : tie.Need-add-end
+add-end c = search needs
+
+lay-three-requires : tie.Need-lay-three-requires
+lay-three-requires c κs = search needs
+
+same-length : tie.Need-same-length
+same-length c = search needs
+
+returns : tie.Need-returns
+returns c = search needs
+
 least-of-requires : tie.Need-least-of-requires
 least-of-requires c κs = search needs
 
@@ -20,24 +32,29 @@ put-record-requires : tie.Need-put-record-requires
 put-record-requires c κs = search needs
 
 add-result : tie.Need-add-result
-add-result c = let a = c .before .before .before .before .before .before .before .args in
-    omega (arith, (rw (guarded-in 0 (a .m .now) _ (omega arith) (c .before .before .before .before .before .before .before .pre .1)) at (c .before .before .put-record .ensures)) .next, framed-length (a .m .now) (a .q))
+add-result c = let i = c .before .before .before .before .before .before .before .before in
+    omega (arith, (rw (guarded-in 0 (i .args .m .now) _ (omega arith) (i .pre .1)) at (c .before .before .put-record .ensures)) .next, framed-length (i .args .m .now) (i .args .q))
 
-same-length : tie.Need-same-length
-same-length c = search needs
+same-length-2 : tie.Need-same-length-2
+same-length-2 c = search needs
 
-returns : tie.Need-returns
-returns c = put-rest _ _ _ _ _ _ (c .before .before .before .before .least-of .ensures) (rw (guarded-in 0 (c .before .before .before .before .before .before .before .args .m .now) _ (omega arith) (c .before .before .before .before .before .before .before .pre .1)) at (c .before .before .put-record .ensures))
+returns-2 : tie.Need-returns-2
+returns-2 c = let i = c .before .before .before .before .before .before .before .before in
+    put-rest _ _ _ _ _ _ (c .before .before .before .before .least-of .ensures) (rw (guarded-in 0 (i .args .m .now) _ (omega arith) (i .pre .1)) at (c .before .before .put-record .ensures))
 
 pub lay-record-spec : {M : Type 1} → statement M
 lay-record-spec =
     tie.close
     (tie.spec
+    add-end
+    lay-three-requires
+    same-length
+    returns
     least-of-requires
     sub-put-record
     part-put-record-start
     part-put-record-end
     put-record-requires
     add-result
-    same-length
-    returns)
+    same-length-2
+    returns-2)
