@@ -46,7 +46,3 @@ module _ {A : Type 0} (us : Users) (p u : ℕ) (act : (ℕ → Effect A)) where
   pub from-nowhere : attached us p u ≡ Nowhere → from us p u act ≡ ignored
   unfolding from from-place
   from-nowhere e = ap from-place e
-
-  pub asks-ignored : attached us p u ≡ Nowhere → (before : A) (out : List ℕ) → settled 1 0 before out ≡ settle before (from us p u act) out
-  unfolding settle
-  asks-ignored e before out = ap (λ (x : Effect A). settle before x out) (sym (from-nowhere e))

@@ -31,20 +31,6 @@ token-set (x ∷ ms) [] (suc i) m v = refl
 token-set (x ∷ ms) (y ∷ vs) zero m v = refl
 token-set (x ∷ ms) (y ∷ vs) (suc i) m v = ap (λ (l : List Token). token x y ∷ l) (token-set ms vs i m v)
 
--- no more places than modes
-pub token-count : (ms vs : List ℕ) → length (token-cells ms vs) ≤ length ms
-unfolding token-cells
-token-count [] vs = zero-le
-token-count (m ∷ ms) [] = zero-le
-token-count (m ∷ ms) (v ∷ vs) = suc-le-suc (token-count ms vs)
-
--- behind the last place nothing stands, and nothing is stored
-pub token-none : (ms vs : List ℕ) (i : ℕ) → length ms ≤ i → getD (token-cells ms vs) i no-token ≡ no-token
-token-none ms vs i h = List·getD-eq-default (token-cells ms vs) no-token (omega (arith, token-count ms vs))
-
-pub token-out : (ms vs : List ℕ) (i : ℕ) (t : Token) → length ms ≤ i → set (token-cells ms vs) i t ≡ token-cells ms vs
-token-out ms vs i t h = set-out (token-cells ms vs) i t (omega (arith, token-count ms vs))
-
 -- ---- channels
 
 -- the channel of these numbers

@@ -30,12 +30,6 @@ pub sends-none : {A : Type 0} (n : ℕ) (before after : A) (out : List ℕ) → 
 unfolding sends
 sends-none n before after out = rw (records-none, le-ltb (length out) 0 (omega arith)) refl
 
--- no 9 where there is room
-pub sends-fits : {A : Type 0} (n : ℕ) (before after : A) (rs : List Sent) (out : List ℕ) → length (records rs) ≤ length out
-    → sends n before after rs out ≡ settled n (length (records rs)) after (records rs ++ drop (length (records rs)) out)
-unfolding sends
-sends-fits n before after rs out h = rw (le-ltb (length out) (length (records rs)) h) refl
-
 module _ {A : Type 0} (before : A) (out : List ℕ) where
   pub settle-ignored : settled 1 0 before out ≡ settle before ignored out
   unfolding settle

@@ -167,9 +167,6 @@ fresh l = record {
 abbrev pub put-links : Domain → ℕ → Domain
 put-links d m = record { limits = d .limits; links = m; users = d .users; channels = d .channels; tokens = d .tokens }
 
-abbrev pub put-users : Domain → Users → Domain
-put-users d us = record { limits = d .limits; links = d .links; users = us; channels = d .channels; tokens = d .tokens }
-
 abbrev pub put-channels : Domain → Channels → Domain
 put-channels d cs = record { limits = d .limits; links = d .links; users = d .users; channels = cs; tokens = d .tokens }
 

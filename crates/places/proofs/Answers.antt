@@ -33,14 +33,6 @@ module _ (n : ℕ) (p : Place) (r : ℕ) (is : r ≡ number n p) where
       go Nowhere e = absurd (let z : r ≡ n = is ∙ ap (number n) e in omega arith)
 
   module _ (inside : Inside n p) where
-    pub number-le : r ≤ n
-    unfolding number
-    number-le = go p refl
-      where
-        go : (q : Place) → p ≡ q → r ≤ n
-        go (At i) e = let z : r ≡ i = is ∙ ap (number n) e in omega (arith, inside i e)
-        go Nowhere e = let z : r ≡ n = is ∙ ap (number n) e in omega arith
-
     pub number-none : n ≤ r → p ≡ Nowhere
     unfolding number
     number-none l = go p refl
@@ -51,9 +43,6 @@ module _ (n : ℕ) (p : Place) (r : ℕ) (is : r ≡ number n p) where
 
 -- the same of what the code's `find` and `spare` answer
 module _ (ids : List ℕ) (x r : ℕ) (is : r ≡ number (length ids) (find ids x)) where
-  pub find-le : r ≤ length ids
-  find-le = number-le (length ids) (find ids x) r is (find-inside ids x)
-
   pub find-at : r < length ids → find ids x ≡ At r
   find-at = number-at (length ids) (find ids x) r is
 
@@ -81,9 +70,6 @@ found-nowhere (At i) e = absurd (true≢false e)
 found-nowhere Nowhere e = refl
 
 module _ (ids : List ℕ) (r : ℕ) (is : r ≡ number (length ids) (spare ids)) where
-  pub spare-le : r ≤ length ids
-  spare-le = number-le (length ids) (spare ids) r is (spare-inside ids)
-
   pub spare-at : r < length ids → spare ids ≡ At r
   spare-at = number-at (length ids) (spare ids) r is
 

@@ -113,10 +113,6 @@ module _ {A : Type 0} (blank : A) (fate : ℕ → ℕ → A → Option A) where
         cells-are = rw e at (sym (cells-step i ids cells d hi hc)) ∙ s .cells-are;
       }
 
-      -- or leaves the place, where it becomes itself
-      pub sweep-skip : becomes blank fate i (getD ids i 0) (getD cells i d) ≡ (getD ids i 0, getD cells i d) → Sweeping ids₀ cells₀ (suc i) ids cells
-      sweep-skip e = rw (set-getD ids i 0, set-getD cells i d) at (sweep-turn (getD ids i 0) (getD cells i d) e)
-
     pub sweep-end : length ids ≤ i → length cells ≤ i
         → (ids ≡ map (λ r. r .0) (sweep blank fate 0 ids₀ cells₀)) × (cells ≡ map (λ r. r .1) (sweep blank fate 0 ids₀ cells₀))
     sweep-end hi hc = (sym (ids-end i ids cells hi) ∙ s .ids-are, sym (cells-end i ids cells hi hc) ∙ s .cells-are)

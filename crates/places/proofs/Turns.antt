@@ -203,14 +203,3 @@ module _ (n low : ℕ) (ids : List ℕ) where
   pub rising-end : next low 0 ids ≡ 0 → rising (suc n) low ids ≡ []
   unfolding rising
   rising-end e = ap (λ (y : ℕ). elim y as (λ (_ : ℕ). List ℕ) [ zero ↦ [] | suc z ↦ suc z ∷ rising n (suc z) ids ]) e
-
--- ---- a mask's list
-
-upto-rest : (n : ℕ) (xs ys : List ℕ) → upto n (xs ++ ys) ≡ upto n xs ++ ys
-unfolding upto
-upto-rest zero xs ys = refl
-upto-rest (suc n) xs ys = upto-rest n (n ∷ xs) ys
-
-pub listed-turn : (m i : ℕ) → listed (suc i) m ≡ listed i m ++ keep (has m) (i ∷ [])
-unfolding listed upto
-listed-turn m i = ap (keep (has m)) (upto-rest i [] (i ∷ [])) ∙ keep-append (has m) (upto i []) (i ∷ [])
