@@ -1,20 +1,20 @@
--- Ids told in ascending order, and the members of a set. Assumes nothing.
-use Prim.Native.Nat.{ℕ, zero, suc, _+_, _-_, _%_, _≤_, _<_}
+-- Ids told in ascending order, and the places picked of a column. Assumes nothing.
+use Prim.Native.Nat.{ℕ, zero, suc, _+_, _-_, _≤_, _<_}
 use mathlib.Core.Path.{_≡_, refl, sym, ap, _∙_}
-use mathlib.Core.Bool.{Bool, true, false}
+use mathlib.Core.Bool.{Bool}
 use mathlib.Core.List.{List, [], _∷_, _++_}
-use native.Mathlib.Nat.{add-suc, add-zero, zero-add}
+use native.Mathlib.Nat.{add-zero}
 use native.Mathlib.Numerals.{add-one}
 use native.Mathlib.Omega.{arith}
 use lib.ListN.{length, take, getD, set, length-set}
-use lib.Seq.{take-suc, take-suc-set, take-length}
-use Rattle.places.specs.Sets.{if_then_else_, has}
+use lib.Seq.{take-suc, take-suc-set, take-all}
+use Rattle.places.specs.Sets.{if_then_else_}
 use Rattle.places.specs.Places.{next, rising, inOrder}
 use Rattle.places.proofs.Turns.{rising-turn, rising-end}
 use Rattle.streams.specs.Lines.{Says}
 use Rattle.streams.proofs.Saying.{Onward, onward-start, onward-step, onward-end}
 use Rattle.domain.specs.declared.token.Holding.{Holding}
-use Rattle.holders.specs.Holders.{over, membersFrom, holdingTexts}
+use Rattle.holders.specs.Holders.{over, pickedFrom, holdingTexts}
 
 -- a loop that tells the ids of a column in ascending order: `left` turns are left, and ids up to `low` are told
 pub record Rising (f : ℕ → List (List ℕ)) (ids o : List ℕ) (w : ℕ) (x : List ℕ) (r low left : ℕ) : Type 0 where
@@ -52,48 +52,52 @@ unfolding over rising
 rising-over {f = f} {ids = ids} {low = low} {left = zero} t h = onward-end [] (t .onward) refl
 rising-over {f = f} {ids = ids} {low = low} {left = suc m} t h = absurd (omega arith)
 
--- the members of a set, one place after the other
-member-at : (us i j : ℕ) (names : List ℕ) → j < length names → getD (membersFrom us i names) j 0 ≡ (if has us (i + j) then getD names j 0 else 0)
-unfolding membersFrom
-member-at us i j [] h = absurd (omega arith)
-member-at us i zero (x ∷ xs) h = ap (λ k. if has us k then x else 0) (sym (add-zero i))
-member-at us i (suc j) (x ∷ xs) h = member-at us (suc i) j xs (omega arith) ∙ ap (λ k. if has us k then getD xs j 0 else 0) (omega arith)
+-- what is picked of a column, one place after the other
+picked-at : (p : ℕ → Bool) (i j : ℕ) (xs : List ℕ) → j < length xs → getD (pickedFrom p i xs) j 0 ≡ (if p (i + j) then getD xs j 0 else 0)
+unfolding pickedFrom
+picked-at p i j [] h = absurd (omega arith)
+picked-at p i zero (x ∷ xs) h = ap (λ k. if p k then x else 0) (sym (add-zero i))
+picked-at p i (suc j) (x ∷ xs) h = picked-at p (suc i) j xs (omega arith) ∙ ap (λ k. if p k then getD xs j 0 else 0) (omega arith)
 
-members-length : (us i : ℕ) (names : List ℕ) → length (membersFrom us i names) ≡ length names
-unfolding membersFrom
-members-length us i [] = refl
-members-length us i (x ∷ xs) = ap suc (members-length us (suc i) xs)
+picked-length : (p : ℕ → Bool) (i : ℕ) (xs : List ℕ) → length (pickedFrom p i xs) ≡ length xs
+unfolding pickedFrom
+picked-length p i [] = refl
+picked-length p i (x ∷ xs) = ap suc (picked-length p (suc i) xs)
 
-pub record Gathered (us : ℕ) (names ids : List ℕ) (i : ℕ) : Type 0 where
+-- a column of 64 that becomes another, place by place: the first i places have
+pub record Filled (ys : List ℕ) (i : ℕ) (xs : List ℕ) : Type 0 where
   pub inside : i ≤ 64
-  pub room : length ids ≡ 64
-  pub same : take i ids ≡ take i (membersFrom us 0 names)
+  pub room : length xs ≡ 64
+  pub same : take i xs ≡ take i ys
 
-pub gathered-start : {us : ℕ} {names ids : List ℕ} → length ids ≡ 64 → Gathered us names ids 0
-gathered-start e = record { inside = omega arith; room = e; same = refl }
+pub filled-start : {ys xs : List ℕ} → length xs ≡ 64 → Filled ys 0 xs
+filled-start e = record { inside = omega arith; room = e; same = refl }
 
-pub gathered-more : {us : ℕ} {names ids : List ℕ} {i : ℕ} (v : ℕ) → length names ≡ 64 → Gathered us names ids i → i < 64 → v ≡ (if has us (i % 64) then getD names i 0 else 0) → Gathered us names (set ids i v) (i + 1)
-gathered-more {us} {names} {ids} {i} v n g h e =
-    let low : i % 64 ≡ 0 + i = omega arith in
+pub filled-more : {ys xs : List ℕ} {i : ℕ} (v : ℕ) → length ys ≡ 64 → Filled ys i xs → i < 64 → v ≡ getD ys i 0 → Filled ys (i + 1) (set xs i v)
+filled-more {ys} {xs} {i} v n f h e =
     record {
       inside = omega arith;
-      room = length-set ids i v ∙ g .room;
+      room = length-set xs i v ∙ f .room;
       same =
           rw (add-one i)
-          (take-suc-set ids i v (omega (arith, g .room))
-          ∙ ap (λ l. l ++ (v ∷ [])) (g .same)
-          ∙ ap (λ z. take i (membersFrom us 0 names) ++ (z ∷ [])) (e ∙ ap (λ k. if has us k then getD names i 0 else 0) low ∙ sym (member-at us 0 i names (omega arith)))
-          ∙ sym (take-suc (membersFrom us 0 names) i 0 (omega (arith, members-length us 0 names))));
+          (take-suc-set xs i v (omega (arith, f .room))
+          ∙ ap (λ l. l ++ (v ∷ [])) (f .same)
+          ∙ ap (λ z. take i ys ++ (z ∷ [])) e
+          ∙ sym (take-suc ys i 0 (omega arith)));
     }
 
-pub gathered-all : {us : ℕ} {names ids : List ℕ} {i : ℕ} → length names ≡ 64 → Gathered us names ids i → 64 ≤ i → ids ≡ membersFrom us 0 names
-gathered-all {us} {names} {ids} {i} n g h =
-    let all : i ≡ 64 = omega (arith, g .inside) in
-    sym (take-length ids)
-    ∙ ap (λ k. take k ids) (g .room ∙ sym all)
-    ∙ g .same
-    ∙ ap (λ k. take k (membersFrom us 0 names)) (all ∙ sym n ∙ sym (members-length us 0 names))
-    ∙ take-length (membersFrom us 0 names)
+pub filled-all : {ys xs : List ℕ} {i : ℕ} → length ys ≡ 64 → Filled ys i xs → 64 ≤ i → xs ≡ ys
+filled-all {ys} {xs} {i} n f h = sym (take-all i xs (omega (arith, f .room))) ∙ f .same ∙ take-all i ys (omega arith)
+
+-- a column that becomes what is picked of another
+pub picked-more : (p : ℕ → Bool) (names : List ℕ) {ids : List ℕ} {i : ℕ} (v : ℕ) → length names ≡ 64 → Filled (pickedFrom p 0 names) i ids → i < 64 → v ≡ (if p i then getD names i 0 else 0)
+    → Filled (pickedFrom p 0 names) (i + 1) (set ids i v)
+picked-more p names {i = i} v n f h e =
+    let low : i ≡ 0 + i = omega arith in
+    filled-more v (picked-length p 0 names ∙ n) f h (e ∙ ap (λ k. if p k then getD names i 0 else 0) low ∙ sym (picked-at p 0 i names (omega arith)))
+
+pub picked-all : (p : ℕ → Bool) (names : List ℕ) {ids : List ℕ} {i : ℕ} → length names ≡ 64 → Filled (pickedFrom p 0 names) i ids → 64 ≤ i → ids ≡ pickedFrom p 0 names
+picked-all p names n f h = filled-all (picked-length p 0 names ∙ n) f h
 
 -- the texts of a state that is told apart
 pub holding-is : (names : List ℕ) (h k : Holding) → h ≡ k → holdingTexts names k ≡ holdingTexts names h

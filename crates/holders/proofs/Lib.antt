@@ -1,1 +1,2 @@
 pub mod HolderLaws
+pub mod Changing

@@ -1,14 +1,14 @@
 // Who holds or is offered which token: the changes that a frame made, and the table.
 ghost use mathlib.Core.Path.{_≡_};
 ghost use mathlib.Core.List.{_∷_};
-ghost use Prim.Native.Nat.{_%_};
-ghost use lib.ListN.{getD};
+ghost use Prim.Native.Nat.{_<_};
+ghost use lib.ListN.{getD, set};
 ghost use Rattle.places.specs.Sets.{if_then_else_, has};
 ghost use Rattle.places.specs.Places.{inOrder};
 ghost use Rattle.domain.specs.Tables.{tokens-of};
 ghost use Rattle.streams.specs.Lines.{Says};
 ghost use Rattle.phrasing.specs.Messages.{idTexts};
-ghost use Rattle.holders.specs.Holders.{over, membersFrom, holdingTexts, tokenTexts, stateTexts, tableTexts};
+ghost use Rattle.holders.specs.Holders.{over, pickedFrom, holdingTexts, tokenTexts, stateTexts, differ, changedIds, changeTexts, tableTexts};
 use domain::token::Holding;
 use streams::lines::say;
 use streams::lines::say_number;
@@ -44,11 +44,11 @@ fn name_at(names: &[u16; 64], i: u8) -> u16
     0
 }
 
-// The id of a user if a set has its place, or 0.
-fn chosen(us: u64, i: usize, id: u16) -> u16
-    ensures { λ r. ⌜ r ≡ (if has us (i % 64) then id else 0) ⌝ }
+// An id that is picked, or 0.
+fn picked(told: bool, id: u16) -> u16
+    ensures { λ r. ⌜ r ≡ (if told then id else 0) ⌝ }
 {
-    if masks::has(us, (i % 64) as u8) {
+    if told {
         return id;
     }
     0
@@ -56,13 +56,13 @@ fn chosen(us: u64, i: usize, id: u16) -> u16
 
 // The ids of the users at the places of a set.
 fn members(names: &[u16; 64], us: u64) -> [u16; 64]
-    ensures { λ r. ⌜ r ≡ membersFrom us 0 (now (names .entry)) ⌝ }
+    ensures { λ r. ⌜ r ≡ pickedFrom (has us) 0 (now (names .entry)) ⌝ }
 {
     let all = &names[..];
     let mut ids = [0u16; 64];
     let mut i = 0;
     while i < 64 {
-        ids[i] = chosen(us, i, all[i]);
+        ids[i] = picked(masks::has(us, i as u8), all[i]);
         i += 1;
     }
     ids
@@ -148,14 +148,18 @@ fn took(
     old_modes: &mut [u8; 64],
     old_values: &mut [u64; 64],
     i: usize,
-) -> bool {
-    if 64 <= i {
-        return false;
-    }
+) -> bool
+    requires { ⌜ i < 64 ⌝ }
+    ensures { λ r. ⌜ (r ≡ differ (getD (now («old_keys» .entry)) i 0) (getD (now («old_modes» .entry)) i 0) (getD (now («old_values» .entry)) i 0)
+        (getD (now (keys .entry)) i 0) (getD (now (modes .entry)) i 0) (getD (now (values .entry)) i 0))
+        × (now («old_keys» .exit) ≡ set (now («old_keys» .entry)) i (getD (now (keys .entry)) i 0))
+        × (now («old_modes» .exit) ≡ set (now («old_modes» .entry)) i (getD (now (modes .entry)) i 0))
+        × (now («old_values» .exit) ≡ set (now («old_values» .entry)) i (getD (now (values .entry)) i 0)) ⌝ }
+{
     let k = keys[i];
     let m = modes[i];
     let v = values[i];
-    let changed = old_keys[i] != k || old_modes[i] != m || old_values[i] != v;
+    let changed = (old_keys[i] != k) | (old_modes[i] != m) | (old_values[i] != v);
     old_keys[i] = k;
     old_modes[i] = m;
     old_values[i] = v;
@@ -170,15 +174,25 @@ fn changes(
     old_keys: &mut [u16; 64],
     old_modes: &mut [u8; 64],
     old_values: &mut [u64; 64],
-) -> [u16; 128] {
+) -> [u16; 128]
+    ensures { λ r. ⌜ (r ≡ changedIds (tokens-of (now («old_keys» .entry)) (now («old_modes» .entry)) (now («old_values» .entry)))
+        (tokens-of (now (keys .entry)) (now (modes .entry)) (now (values .entry))))
+        × (now («old_keys» .exit) ≡ now (keys .entry)) × (now («old_modes» .exit) ≡ now (modes .entry)) × (now («old_values» .exit) ≡ now (values .entry)) ⌝ }
+{
+    // How long the columns are: what the loop keeps.
+    let n1 = keys[..].len();
+    let n2 = modes[..].len();
+    let n3 = values[..].len();
+    let n4 = old_keys[..].len();
+    let n5 = old_modes[..].len();
+    let n6 = old_values[..].len();
     let mut list = [0u16; 128];
     let mut i = 0;
     while i < 64 {
         let was = old_keys[i];
-        if took(keys, modes, values, old_keys, old_modes, old_values, i) {
-            list[i] = was;
-            list[64 + i] = keys[i];
-        }
+        let told = took(keys, modes, values, old_keys, old_modes, old_values, i);
+        list[i] = picked(told, was);
+        list[64 + i] = picked(told, keys[i]);
         i += 1;
     }
     list
@@ -195,7 +209,11 @@ pub fn put_changes(
     old_keys: &mut [u16; 64],
     old_modes: &mut [u8; 64],
     old_values: &mut [u64; 64],
-) -> usize {
+) -> usize
+    ensures { λ r. ⌜ Says (now (out .entry)) filled (changeTexts (now (names .entry)) (tokens-of (now («old_keys» .entry)) (now («old_modes» .entry)) (now («old_values» .entry)))
+        (tokens-of (now (keys .entry)) (now (modes .entry)) (now (values .entry)))) (now (out .exit)) r
+        × (now («old_keys» .exit) ≡ now (keys .entry)) × (now («old_modes» .exit) ≡ now (modes .entry)) × (now («old_values» .exit) ≡ now (values .entry)) ⌝ }
+{
     let list = changes(keys, modes, values, old_keys, old_modes, old_values);
     put_tokens(out, filled, names, keys, modes, values, &list)
 }

@@ -1,28 +1,36 @@
 -- `holders::members` meets its contract: one place after the other. Assumes nothing.
 use mathlib.Core.Path.{refl}
 use Prim.Native.Nat.{_-_}
-use Rattle.holders.proofs.HolderLaws.{Gathered, gathered-start, gathered-more, gathered-all}
+use Rattle.holders.proofs.HolderLaws.{Filled, filled-start, picked-more, picked-all}
+use Rattle.places.specs.Sets.{has}
+use Rattle.holders.specs.Holders.{pickedFrom}
 use borrow.Author.Needs.{needs}
 use Rattle.holders.proofs.members.Statement.{statement}
 use Rattle.holders.proofs.members.Tie as tie
 
 abbrev Inv-loop : tie.InvT-loop
-Inv-loop names us all ids₀ i₀ ids i = Gathered us names ids i
+Inv-loop names us all ids₀ i₀ ids i = Filled (pickedFrom (has us) 0 names) i ids
 
 abbrev μ-loop : tie.MeasureT-loop
 μ-loop names us all ids₀ i₀ ids i = 64 - i
 
 loop-holds : tie.Need-loop-holds Inv-loop μ-loop
-loop-holds c = gathered-start refl
+loop-holds c = filled-start refl
 
-mul-chosen : tie.Need-mul-chosen Inv-loop μ-loop
-mul-chosen c = search needs
+cast-has : tie.Need-cast-has Inv-loop μ-loop
+cast-has c = search needs
 
-shared-slice-read-chosen : tie.Need-shared-slice-read-chosen Inv-loop μ-loop
-shared-slice-read-chosen c = search needs
+has-requires : tie.Need-has-requires Inv-loop μ-loop
+has-requires c κs = search needs
 
-chosen-requires : tie.Need-chosen-requires Inv-loop μ-loop
-chosen-requires c κs = search needs
+mul-picked : tie.Need-mul-picked Inv-loop μ-loop
+mul-picked c = search needs
+
+shared-slice-read-picked : tie.Need-shared-slice-read-picked Inv-loop μ-loop
+shared-slice-read-picked c = search needs
+
+picked-requires : tie.Need-picked-requires Inv-loop μ-loop
+picked-requires c κs = search needs
 
 mul-ids : tie.Need-mul-ids Inv-loop μ-loop
 mul-ids c = search needs
@@ -37,10 +45,12 @@ loop-less : tie.Need-loop-less Inv-loop μ-loop
 loop-less c = search needs
 
 loop-again : tie.Need-loop-again Inv-loop μ-loop
-loop-again c = gathered-more (c .chosen .result) (search needs) (c .before .before .before .loop .inv) (c .before .before .loop-test .taken) (c .chosen .ensures)
+loop-again c =
+    let start = c .before .before .before .before .before .before in
+    picked-more (has (start .args .us)) (start .args .names .now) (c .picked .result) (search needs) (c .before .before .before .before .loop .inv) (c .before .before .before .loop-test .taken) (rw (← c .before .before .has .ensures) (c .picked .ensures))
 
 returns : tie.Need-returns Inv-loop μ-loop
-returns c = gathered-all (search needs) (c .before .loop .inv) (c .loop-test .left)
+returns c = picked-all (has (c .before .before .before .args .us)) (c .before .before .before .args .names .now) (search needs) (c .before .loop .inv) (c .loop-test .left)
 
 pub members-spec : {M : Type 1} → statement M
 members-spec =
@@ -49,9 +59,11 @@ members-spec =
     Inv-loop
     μ-loop
     loop-holds
-    mul-chosen
-    shared-slice-read-chosen
-    chosen-requires
+    cast-has
+    has-requires
+    mul-picked
+    shared-slice-read-picked
+    picked-requires
     mul-ids
     array-write-ids
     add-i
