@@ -27,12 +27,15 @@ tells-plain os texts h e =
     let s : Stop = record { refusal = refusalOf (decodeOf os); bit = 0; part = End; why = Read } in
     record { stop = s; refusal = refl; says = says-as h (e s) }
 
--- the same texts, told otherwise; and behind others
+-- the same texts, told otherwise; behind others; and with others behind them
 pub tells-as : {os : List ℕ} {a b : Stop → List (List ℕ)} {o x : List ℕ} {f r : ℕ} → Tells os a o f x r → ((s : Stop) → a s ≡ b s) → Tells os b o f x r
 tells-as t e = record { stop = t .stop; refusal = t .refusal; says = says-as (t .says) (e (t .stop)) }
 
 pub tells-then : {os : List ℕ} {a : Stop → List (List ℕ)} {o x y : List ℕ} {f r q : ℕ} {ts : List (List ℕ)} → Says o f ts x r → Tells os a x r y q → Tells os (λ s. ts ++ a s) o f y q
 tells-then h t = record { stop = t .stop; refusal = t .refusal; says = says-then h (t .says) }
+
+pub tells-more : {os : List ℕ} {a : Stop → List (List ℕ)} {o x y : List ℕ} {f r q : ℕ} {us : List (List ℕ)} → Tells os a o f x r → Says x r us y q → Tells os (λ s. a s ++ us) o f y q
+tells-more t h = record { stop = t .stop; refusal = t .refusal; says = says-then (t .says) h }
 
 -- the event of a kind
 pub event-is : (k j : Kind) (connection : ℕ) (os : List ℕ) → k ≡ j → eventTexts j connection os ≡ eventTexts k connection os

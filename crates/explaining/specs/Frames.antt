@@ -4,7 +4,7 @@ use mathlib.Core.Bool.{_||_, cond}
 use mathlib.Core.List.{List, [], _∷_, _++_}
 use lib.Dec.{ltb, eqb}
 use lib.ListN.{take, drop}
-use Rattle.frames.specs.Frames.{Front, over, frame, refused, sizeOf}
+use Rattle.frames.specs.Frames.{Front, over, frame, refused, front, sizeOf}
 use Rattle.frames.specs.declared.Kind.{Kind}
 use Rattle.frames.specs.declared.Kind.the-variants.{Open, Loss, Message}
 use Rattle.reader.specs.Reading.{decodeOf}
@@ -16,7 +16,9 @@ use Rattle.streams.specs.declared.lines.Report.{Report}
 use Rattle.wording.specs.Letters.{ascii}
 use Rattle.wording.specs.Words.{word, placed, reply-words}
 use Rattle.phrasing.specs.Messages.{octetsTexts}
-use Rattle.explaining.specs.Sent.{inWords}
+use Rattle.domain.specs.Tables.{Tokens}
+use Rattle.holders.specs.Holders.{changeTexts}
+use Rattle.explaining.specs.Sent.{inWords, sentTexts}
 
 -- the event of a good frame: what came on which connection, and a message in words
 unfoldable pub eventTexts : Kind → ℕ → List ℕ → List (List ℕ)
@@ -75,3 +77,11 @@ unfoldable pub frontTexts : ℕ → List ℕ → Front → Stop → List (List �
 frontTexts reply s over stop = ascii ": end\n" ∷ []
 frontTexts reply s (frame kind connection start size) stop = goodTexts reply (kindBy kind) connection (take (size - start) (drop start s)) stop
 frontTexts reply s (refused n) stop = badTexts s
+
+-- a frame: its number, what stands at the front of s, the reply, the records sent, and a line for each token that changed
+unfoldable pub frameTexts : ℕ → List ℕ → Report → (room names : List ℕ) → (before after : Tokens) → Stop → List (List ℕ)
+frameTexts number s report room names before after stop =
+    ascii "frame " ∷ decimal number ∷ frontTexts (report .reply) s (front s) stop
+    ++ replyTexts report
+    ++ sentTexts (report .sent) room
+    ++ changeTexts names before after

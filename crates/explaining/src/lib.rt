@@ -4,10 +4,11 @@ ghost use mathlib.Core.List.{[], _∷_};
 ghost use Prim.Native.Nat.{_≤_};
 ghost use lib.ListN.{length, take};
 ghost use Rattle.frames.specs.Frames.{front, sizeOf};
+ghost use Rattle.domain.specs.Tables.{tokens-of};
 ghost use Rattle.streams.specs.Lines.{decimal, Says};
 ghost use Rattle.stopped.specs.StopLine.{Tells};
 ghost use Rattle.explaining.specs.Sent.{sentTexts};
-ghost use Rattle.explaining.specs.Frames.{eventTexts, octetsLine, refusedTexts, wrongTexts, countsTexts, replyTexts, badTexts, goodTexts, messageIn, frontTexts};
+ghost use Rattle.explaining.specs.Frames.{eventTexts, octetsLine, refusedTexts, wrongTexts, countsTexts, replyTexts, badTexts, goodTexts, messageIn, frontTexts, frameTexts};
 
 mod sent;
 
@@ -207,7 +208,12 @@ pub fn put_frame(
     old_keys: &mut [u16; 64],
     old_modes: &mut [u8; 64],
     old_values: &mut [u64; 64],
-) -> usize {
+) -> usize
+    ensures { λ r. ⌜ Tells (messageIn (now (s .entry)) (front (now (s .entry)))) (frameTexts number (now (s .entry)) report (now (room .entry)) (now (names .entry))
+        (tokens-of (now («old_keys» .entry)) (now («old_modes» .entry)) (now («old_values» .entry)))
+        (tokens-of (now (keys .entry)) (now (modes .entry)) (now (values .entry)))) (now (out .entry)) filled (now (out .exit)) r
+        × (now («old_keys» .exit) ≡ now (keys .entry)) × (now («old_modes» .exit) ≡ now (modes .entry)) × (now («old_values» .exit) ≡ now (values .entry)) ⌝ }
+{
     let a = put_count(out, filled, b"frame ", number);
     let b = put_front(out, a, s, report.reply);
     let c = put_reply(out, b, report);
