@@ -1,13 +1,13 @@
 -- The texts of a frame, by the cases that the code tells apart. Assumes nothing.
-use Prim.Native.Nat.{ℕ, _+_, _-_, _≤_, _<_}
+use Prim.Native.Nat.{ℕ, _-_, _≤_, _<_}
 use mathlib.Core.Path.{_≡_, refl, sym, ap, _∙_}
-use mathlib.Core.Bool.{Bool, true, false, _||_, or-true}
+use mathlib.Core.Bool.{or-true}
 use mathlib.Core.List.{List, [], _∷_, _++_, append-nil}
 use native.Mathlib.Omega.{arith}
 use borrow.Author.Tests.{eq-eqb, ne-eqb, lt-ltb, le-ltb}
 use lib.ListN.{length, take, drop}
 use lib.Seq.{take-length, take-all}
-use Rattle.frames.specs.Frames.{Front, over, frame, refused, front, meaning, sizeOf, kindNumber}
+use Rattle.frames.specs.Frames.{Front, over, frame, refused, front, sizeOf, kindNumber}
 use Rattle.frames.specs.declared.Kind.{Kind}
 use Rattle.frames.specs.declared.Kind.the-variants.{Open, Loss, Message}
 use Rattle.reader.specs.Reading.{decodeOf}
@@ -81,7 +81,7 @@ unfolding strayTexts
 stray-unread os refusal e h = rw (ne-eqb (refusalOf (decodeOf os)) 0 (λ z. h (e ∙ z))) refl
 
 -- what stands at the front
-pub kind-by : (k : Kind) → kindBy (kindNumber k) ≡ k
+kind-by : (k : Kind) → kindBy (kindNumber k) ≡ k
 unfolding kindBy
 kind-by Open = refl
 kind-by Loss = refl

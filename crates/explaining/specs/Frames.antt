@@ -72,10 +72,10 @@ messageIn s over = []
 messageIn s (frame kind connection start size) = take (size - start) (drop start s)
 messageIn s (refused n) = []
 
--- what stands at the front of s
+-- what stands at the front of s: nothing, a good frame, or a bad one
 unfoldable pub frontTexts : ℕ → List ℕ → Front → Stop → List (List ℕ)
 frontTexts reply s over stop = ascii ": end\n" ∷ []
-frontTexts reply s (frame kind connection start size) stop = goodTexts reply (kindBy kind) connection (take (size - start) (drop start s)) stop
+frontTexts reply s (frame kind connection start size) stop = goodTexts reply (kindBy kind) connection (messageIn s (frame kind connection start size)) stop
 frontTexts reply s (refused n) stop = badTexts s
 
 -- a frame: its number, what stands at the front of s, the reply, the records sent, and a line for each token that changed

@@ -1,13 +1,13 @@
 -- The parts of a stop's line, by the cases that the code tells apart. Assumes nothing.
 use Prim.Native.Nat.{ℕ, _-_, _/_}
-use mathlib.Core.Path.{_≡_, refl, sym, ap, _∙_}
+use mathlib.Core.Path.{_≡_, refl, sym, ap}
 use mathlib.Core.List.{List, [], _∷_}
 use borrow.Author.Tests.{eq-eqb, ne-eqb}
 use lib.ListN.{length, getD}
 use Rattle.stops.specs.declared.Part.{Part}
-use Rattle.stops.specs.declared.Why.{Why}
-use Rattle.stopped.specs.StopLine.{itemsPlace, partText, whyPlace, numberIn}
+use Rattle.stopped.specs.StopLine.{itemsPlace, partText, numberIn}
 
+-- what follows the fields, by its kind
 pub items-none : (kind : ℕ) → kind ≡ 0 → 3 ≡ itemsPlace kind
 unfolding itemsPlace
 items-none kind e = rw (eq-eqb kind 0 e) refl
@@ -16,6 +16,7 @@ pub items-some : (kind : ℕ) → (kind ≡ 0 → ⊥) → kind - 1 ≡ itemsPla
 unfolding itemsPlace
 items-some kind n = rw (ne-eqb kind 0 n) refl
 
+-- the number of no octets, and of some
 pub number-none : (os : List ℕ) → length os ≡ 0 → 63 ≡ numberIn os
 unfolding numberIn
 number-none os e = rw (eq-eqb (length os) 0 e) refl
@@ -24,6 +25,6 @@ pub number-some : (os : List ℕ) (o : ℕ) → (length os ≡ 0 → ⊥) → o 
 unfolding numberIn
 number-some os o n e = rw (ne-eqb (length os) 0 n, ← e) refl
 
--- the texts of a part, and of a reason, that is told apart
+-- the text of a part that is told apart
 pub part-is : (number : ℕ) (p q : Part) → p ≡ q → partText number q ∷ [] ≡ partText number p ∷ []
 part-is number p q e = ap (λ x. partText number x ∷ []) (sym e)
