@@ -1,6 +1,14 @@
 // A trace in words, frame by frame: what came, the reply, what was sent, and which tokens changed.
+ghost use mathlib.Core.Path.{_≡_};
+ghost use mathlib.Core.List.{[], _∷_};
 ghost use Prim.Native.Nat.{_≤_};
-ghost use lib.ListN.{length};
+ghost use lib.ListN.{length, take};
+ghost use Rattle.frames.specs.Frames.{front, sizeOf};
+ghost use Rattle.domain.specs.Tables.{tokens-of};
+ghost use Rattle.streams.specs.Lines.{decimal, Says};
+ghost use Rattle.stopped.specs.StopLine.{Tells};
+ghost use Rattle.explaining.specs.Sent.{sentTexts};
+ghost use Rattle.explaining.specs.Frames.{eventTexts, octetsLine, refusedTexts, wrongTexts, countsTexts, replyTexts, badTexts, goodTexts, messageIn, frontTexts, frameTexts};
 
 mod sent;
 
@@ -12,13 +20,17 @@ use streams::lines::say_number;
 use wording::words::say_named;
 
 // A text and the number behind it.
-fn put_count(out: &mut [u8], filled: usize, text: &[u8], n: u64) -> usize {
+fn put_count(out: &mut [u8], filled: usize, text: &[u8], n: u64) -> usize
+    ensures { λ r. ⌜ Says (now (out .entry)) filled (now (text .entry) ∷ decimal n ∷ []) (now (out .exit)) r ⌝ }
+{
     let a = say(out, filled, text);
     say_number(out, a, n)
 }
 
 // The event of a good frame: a message in words.
-fn put_event(out: &mut [u8], filled: usize, kind: Kind, connection: u8, message: &[u8]) -> usize {
+fn put_event(out: &mut [u8], filled: usize, kind: Kind, connection: u8, message: &[u8]) -> usize
+    ensures { λ r. ⌜ Says (now (out .entry)) filled (eventTexts kind connection (now (message .entry))) (now (out .exit)) r ⌝ }
+{
     match kind {
         Kind::Open => put_count(out, filled, b": open, connection ", connection as u64),
         Kind::Loss => put_count(out, filled, b": lost, connection ", connection as u64),
@@ -31,14 +43,18 @@ fn put_event(out: &mut [u8], filled: usize, kind: Kind, connection: u8, message:
 }
 
 // The line of octets in hexadecimal.
-fn put_octets_line(out: &mut [u8], filled: usize, octets: &[u8]) -> usize {
+fn put_octets_line(out: &mut [u8], filled: usize, octets: &[u8]) -> usize
+    ensures { λ r. ⌜ Says (now (out .entry)) filled (octetsLine (now (octets .entry))) (now (out .exit)) r ⌝ }
+{
     let a = say(out, filled, b"  octets");
     let b = phrasing::message::put_octets(out, a, octets);
     say(out, b, b"\n")
 }
 
 // A message that was not read, or that a connection that is not open sent and that cannot be read: its octets, and for 5 and 8 where reading stopped.
-fn put_refused(out: &mut [u8], filled: usize, reply: u64, message: &[u8]) -> usize {
+fn put_refused(out: &mut [u8], filled: usize, reply: u64, message: &[u8]) -> usize
+    ensures { λ r. ⌜ Tells (now (message .entry)) (refusedTexts reply (now (message .entry))) (now (out .entry)) filled (now (out .exit)) r ⌝ }
+{
     if reply < 4 {
         return filled;
     }
@@ -56,7 +72,9 @@ fn put_refused(out: &mut [u8], filled: usize, reply: u64, message: &[u8]) -> usi
 }
 
 // The octets of a message on a connection that is not open, where they cannot be read.
-fn put_unread(out: &mut [u8], filled: usize, reply: u64, kind: Kind, message: &[u8]) -> usize {
+fn put_unread(out: &mut [u8], filled: usize, reply: u64, kind: Kind, message: &[u8]) -> usize
+    ensures { λ r. ⌜ Tells (now (message .entry)) (wrongTexts reply kind (now (message .entry))) (now (out .entry)) filled (now (out .exit)) r ⌝ }
+{
     if reply != 2 {
         return put_refused(out, filled, reply, message);
     }
@@ -74,14 +92,18 @@ fn put_unread(out: &mut [u8], filled: usize, reply: u64, kind: Kind, message: &[
 }
 
 // Users, channels and tokens in use.
-fn put_counts(out: &mut [u8], filled: usize, report: Report) -> usize {
+fn put_counts(out: &mut [u8], filled: usize, report: Report) -> usize
+    ensures { λ r. ⌜ Says (now (out .entry)) filled (countsTexts report) (now (out .exit)) r ⌝ }
+{
     let a = put_count(out, filled, b", users ", report.users);
     let b = put_count(out, a, b", channels ", report.channels);
     put_count(out, b, b", tokens ", report.tokens)
 }
 
 // The line of the reply: its number and meaning, octets sent, users, channels and tokens in use.
-fn put_reply(out: &mut [u8], filled: usize, report: Report) -> usize {
+fn put_reply(out: &mut [u8], filled: usize, report: Report) -> usize
+    ensures { λ r. ⌜ Says (now (out .entry)) filled (replyTexts report) (now (out .exit)) r ⌝ }
+{
     let a = put_count(out, filled, b"  reply ", report.reply);
     let b = say(out, a, b" (");
     let c = say_named(
@@ -98,7 +120,7 @@ fn put_reply(out: &mut [u8], filled: usize, report: Report) -> usize {
 
 // The octets of a bad frame: as many as its length says, or all that are left.
 fn bad_size(s: &[u8]) -> usize
-    ensures { λ r. ⌜ r ≤ length (now (s .entry)) ⌝ }
+    ensures { λ r. ⌜ (r ≤ length (now (s .entry))) × (take r (now (s .entry)) ≡ take (sizeOf (now (s .entry))) (now (s .entry))) ⌝ }
 {
     if s.len() < 2 {
         return s.len();
@@ -111,7 +133,9 @@ fn bad_size(s: &[u8]) -> usize
 }
 
 // A bad frame: its octets.
-fn put_bad(out: &mut [u8], filled: usize, s: &[u8]) -> usize {
+fn put_bad(out: &mut [u8], filled: usize, s: &[u8]) -> usize
+    ensures { λ r. ⌜ Says (now (out .entry)) filled (badTexts (now (s .entry))) (now (out .exit)) r ⌝ }
+{
     let a = say(out, filled, b": bad frame\n");
     let size = bad_size(s);
     put_octets_line(out, a, &s[..size])
@@ -125,14 +149,18 @@ fn put_good(
     connection: u8,
     message: &[u8],
     reply: u64,
-) -> usize {
+) -> usize
+    ensures { λ r. ⌜ Tells (now (message .entry)) (goodTexts reply kind connection (now (message .entry))) (now (out .entry)) filled (now (out .exit)) r ⌝ }
+{
     let a = put_event(out, filled, kind, connection, message);
     let b = say(out, a, b"\n");
     put_unread(out, b, reply, kind, message)
 }
 
 // What stands at the front of s, in words.
-fn put_front(out: &mut [u8], filled: usize, s: &[u8], reply: u64) -> usize {
+fn put_front(out: &mut [u8], filled: usize, s: &[u8], reply: u64) -> usize
+    ensures { λ r. ⌜ Tells (messageIn (now (s .entry)) (front (now (s .entry)))) (frontTexts reply (now (s .entry)) (front (now (s .entry)))) (now (out .entry)) filled (now (out .exit)) r ⌝ }
+{
     let found = frames::next_frame(s);
     match found {
         Frame::End => say(out, filled, b": end\n"),
@@ -155,7 +183,9 @@ fn put_front(out: &mut [u8], filled: usize, s: &[u8], reply: u64) -> usize {
 }
 
 // The records sent: the first so many octets of the room.
-fn put_sent(out: &mut [u8], filled: usize, room: &[u8], sent: u64) -> usize {
+fn put_sent(out: &mut [u8], filled: usize, room: &[u8], sent: u64) -> usize
+    ensures { λ r. ⌜ Says (now (out .entry)) filled (sentTexts sent (now (room .entry))) (now (out .exit)) r ⌝ }
+{
     let k = (sent % 65536) as usize;
     if room.len() < k {
         return filled;
@@ -178,7 +208,12 @@ pub fn put_frame(
     old_keys: &mut [u16; 64],
     old_modes: &mut [u8; 64],
     old_values: &mut [u64; 64],
-) -> usize {
+) -> usize
+    ensures { λ r. ⌜ Tells (messageIn (now (s .entry)) (front (now (s .entry)))) (frameTexts number (now (s .entry)) report (now (room .entry)) (now (names .entry))
+        (tokens-of (now («old_keys» .entry)) (now («old_modes» .entry)) (now («old_values» .entry)))
+        (tokens-of (now (keys .entry)) (now (modes .entry)) (now (values .entry)))) (now (out .entry)) filled (now (out .exit)) r
+        × (now («old_keys» .exit) ≡ now (keys .entry)) × (now («old_modes» .exit) ≡ now (modes .entry)) × (now («old_values» .exit) ≡ now (values .entry)) ⌝ }
+{
     let a = put_count(out, filled, b"frame ", number);
     let b = put_front(out, a, s, report.reply);
     let c = put_reply(out, b, report);

@@ -1,12 +1,15 @@
 // The records sent for a frame, a line each.
+ghost use mathlib.Core.Path.{_≡_};
 ghost use Prim.Native.Nat.{_≤_};
 ghost use lib.ListN.{length};
+ghost use Rattle.streams.specs.Lines.{Says};
+ghost use Rattle.explaining.specs.Sent.{recordSize, recordTexts, recordsTexts};
 use streams::lines::say;
 use streams::lines::say_number;
 
 // How many octets the record at the front has; 0 where there is none.
 fn size_at(records: &[u8]) -> usize
-    ensures { λ r. ⌜ r ≤ length (now (records .entry)) ⌝ }
+    ensures { λ r. ⌜ r ≡ recordSize (now (records .entry)) ⌝ }
 {
     if records.len() < 4 {
         return 0;
@@ -22,19 +25,21 @@ fn size_at(records: &[u8]) -> usize
 }
 
 // A record: to which connection, and the message in words.
-fn put_record(out: &mut [u8], filled: usize, record: &[u8]) -> usize {
-    if record.len() < 4 {
-        return filled;
-    }
+fn put_record(out: &mut [u8], filled: usize, one: &[u8]) -> usize
+    requires { ⌜ 4 ≤ length (now one) ⌝ }
+    ensures { λ r. ⌜ Says (now (out .entry)) filled (recordTexts (now (one .entry))) (now (out .exit)) r ⌝ }
+{
     let a = say(out, filled, b"  to connection ");
-    let b = say_number(out, a, octets::wide(record[3]) as u64);
+    let b = say_number(out, a, octets::wide(one[3]) as u64);
     let c = say(out, b, b": ");
-    let d = phrasing::message::put_message(out, c, &record[4..]);
+    let d = phrasing::message::put_message(out, c, &one[4..]);
     say(out, d, b"\n")
 }
 
 // Records one behind the other.
-pub fn put_records(out: &mut [u8], filled: usize, records: &[u8]) -> usize {
+pub fn put_records(out: &mut [u8], filled: usize, records: &[u8]) -> usize
+    ensures { λ r. ⌜ Says (now (out .entry)) filled (recordsTexts (now (records .entry))) (now (out .exit)) r ⌝ }
+{
     let mut at = filled;
     let mut from = 0;
     let mut size = size_at(records);

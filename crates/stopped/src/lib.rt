@@ -1,4 +1,8 @@
 // The line that says where the reading of a message stopped, and why.
+ghost use mathlib.Core.Path.{_≡_};
+ghost use mathlib.Core.List.{[], _∷_};
+ghost use Rattle.streams.specs.Lines.{Says};
+ghost use Rattle.stopped.specs.StopLine.{itemsPlace, partText, whyPlace, numberIn, placeTexts, stopTexts, Tells};
 use stops::Part;
 use stops::Why;
 use streams::lines::say;
@@ -7,7 +11,9 @@ use wording::words::say_named;
 use wording::words::say_word;
 
 // The part of a message: its number, a field or what follows the fields by name, or the end.
-fn put_part(out: &mut [u8], filled: usize, number: u32, part: Part) -> usize {
+fn put_part(out: &mut [u8], filled: usize, number: u32, part: Part) -> usize
+    ensures { λ r. ⌜ Says (now (out .entry)) filled (partText number part ∷ []) (now (out .exit)) r ⌝ }
+{
     match part {
         Part::Number => say_named(out, filled, wording::words::PART, 5, 3),
         Part::Field(i) => say_word(out, filled, wording::fields::field_word(number, i)),
@@ -23,7 +29,9 @@ fn put_part(out: &mut [u8], filled: usize, number: u32, part: Part) -> usize {
 }
 
 // One less, and of 0 none.
-fn before(kind: u8) -> u32 {
+fn before(kind: u8) -> u32
+    ensures { λ r. ⌜ r ≡ itemsPlace kind ⌝ }
+{
     if kind == 0 {
         return 3;
     }
@@ -31,7 +39,9 @@ fn before(kind: u8) -> u32 {
 }
 
 // The place of a reason among the words for why reading stops; behind the last where the words have none.
-fn place_of(why: Why) -> u32 {
+fn place_of(why: Why) -> u32
+    ensures { λ r. ⌜ r ≡ whyPlace why ⌝ }
+{
     match why {
         Why::Read => 11,
         Why::Size => 11,
@@ -51,7 +61,9 @@ fn place_of(why: Why) -> u32 {
 }
 
 // The message's number, of octets that are there.
-fn number_of(octets: &[u8]) -> u32 {
+fn number_of(octets: &[u8]) -> u32
+    ensures { λ r. ⌜ r ≡ numberIn (now (octets .entry)) ⌝ }
+{
     if octets.len() == 0 {
         return 63;
     }
@@ -59,7 +71,9 @@ fn number_of(octets: &[u8]) -> u32 {
 }
 
 // An octet and a bit, counted from 0.
-fn put_place(out: &mut [u8], filled: usize, bit: usize) -> usize {
+fn put_place(out: &mut [u8], filled: usize, bit: usize) -> usize
+    ensures { λ r. ⌜ Says (now (out .entry)) filled (placeTexts bit) (now (out .exit)) r ⌝ }
+{
     let a = say(out, filled, b"  stopped at octet ");
     let b = say_number(out, a, (bit / 8) as u64);
     let c = say(out, b, b" bit ");
@@ -67,7 +81,9 @@ fn put_place(out: &mut [u8], filled: usize, bit: usize) -> usize {
 }
 
 // The line that says where reading stopped: the octet and the bit, the part of the message, and why.
-pub fn put_stop(out: &mut [u8], filled: usize, octets: &[u8]) -> usize {
+pub fn put_stop(out: &mut [u8], filled: usize, octets: &[u8]) -> usize
+    ensures { λ r. ⌜ Tells (now (octets .entry)) (stopTexts (now (octets .entry))) (now (out .entry)) filled (now (out .exit)) r ⌝ }
+{
     let s = stops::where_stopped(octets);
     let part = s.part;
     let why = s.why;

@@ -1,6 +1,9 @@
--- `explaining::put_bad` is safe: what is shown lies in what is read. Assumes nothing.
+-- `explaining::put_bad` meets its contract. Assumes nothing.
+use Rattle.explaining.specs.Frames.{octetsLine, badTexts}
+use Rattle.wording.specs.Letters.{ascii}
+use Rattle.streams.proofs.Saying.{says-then, says-as}
 use lib.Seq.{length-take-le}
-use mathlib.Core.Path.{sym}
+use mathlib.Core.Path.{sym, ap}
 use borrow.Author.Needs.{needs}
 use Rattle.explaining.proofs.put_bad.Statement.{statement}
 use Rattle.explaining.proofs.put_bad.Tie as tie
@@ -15,7 +18,7 @@ bad-size-requires : tie.Need-bad-size-requires
 bad-size-requires c κs = search needs
 
 slice-aggregate-put-octets-line : tie.Need-slice-aggregate-put-octets-line
-slice-aggregate-put-octets-line c = sym (length-take-le (c .before .before .bad-size .result) (c .before .before .before .before .before .before .before .before .before .before .args .s .now) (c .before .before .bad-size .ensures))
+slice-aggregate-put-octets-line c = sym (length-take-le (c .before .before .bad-size .result) (c .before .before .before .before .before .before .before .before .before .before .args .s .now) (c .before .before .bad-size .ensures .0))
 
 put-octets-line-requires : tie.Need-put-octets-line-requires
 put-octets-line-requires c κs = search needs
@@ -24,7 +27,8 @@ same-length : tie.Need-same-length
 same-length c = search needs
 
 returns : tie.Need-returns
-returns c = search needs
+unfolding ascii badTexts
+returns c = says-then (c .before .before .before .before .before .before .before .before .say .ensures) (says-as (c .before .before .put-octets-line .ensures) (ap octetsLine (c .before .before .before .before .before .bad-size .ensures .1)))
 
 pub put-bad-spec : {M : Type 1} → statement M
 put-bad-spec =

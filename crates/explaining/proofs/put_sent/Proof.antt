@@ -1,4 +1,6 @@
--- `explaining::put_sent` is safe: what is shown lies in the room. Assumes nothing.
+-- `explaining::put_sent` meets its contract. Assumes nothing.
+use Rattle.explaining.proofs.SentLaws.{sent-none, sent-some}
+use Rattle.streams.proofs.Saying.{says-none, says-as}
 use lib.Seq.{length-take-le}
 use mathlib.Core.Path.{sym}
 use Prim.Native.Nat.{_%_}
@@ -7,7 +9,7 @@ use Rattle.explaining.proofs.put_sent.Statement.{statement}
 use Rattle.explaining.proofs.put_sent.Tie as tie
 
 returns : tie.Need-returns
-returns c = search needs
+returns c = says-as says-none (sent-none (c .before .before .before .args .sent) (c .before .before .before .args .room .now) (c .if1 .taken))
 
 slice-aggregate-put-records : tie.Need-slice-aggregate-put-records
 slice-aggregate-put-records c = sym (length-take-le (c .before .before .before .before .before .args .sent % 65536) (c .before .before .before .before .before .args .room .now) (c .before .before .if1 .left))
@@ -19,7 +21,7 @@ same-length : tie.Need-same-length
 same-length c = search needs
 
 returns-2 : tie.Need-returns-2
-returns-2 c = search needs
+returns-2 c = says-as (c .before .before .put-records .ensures) (sent-some (c .before .before .before .before .before .before .before .before .args .sent) (c .before .before .before .before .before .before .before .before .args .room .now) (c .before .before .before .before .before .if1 .left))
 
 pub put-sent-spec : {M : Type 1} → statement M
 put-sent-spec =

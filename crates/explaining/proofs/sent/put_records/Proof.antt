@@ -1,13 +1,13 @@
--- `explaining::sent::put_records` is safe and ends. Assumes nothing.
-use mathlib.Core.Path.{_≡_}
-use Prim.Native.Nat.{_+_, _-_, _≤_}
+-- `explaining::sent::put_records` meets its contract: the records are told one behind the other. Assumes nothing.
+use Rattle.explaining.proofs.SentLaws.{Sending, sending-start, sending-more, sending-whole, sending-end}
+use Prim.Native.Nat.{_-_}
 use lib.ListN.{length}
 use borrow.Author.Needs.{needs}
 use Rattle.explaining.proofs.sent.put_records.Statement.{statement}
 use Rattle.explaining.proofs.sent.put_records.Tie as tie
 
 abbrev Inv-loop : tie.InvT-loop
-Inv-loop out₀ filled records at₀ from₀ size₀ out at from size = (length out ≡ length out₀) × (from + size ≤ length records)
+Inv-loop out₀ filled records at₀ from₀ size₀ out at from size = Sending records out₀ filled out at from size
 
 abbrev μ-loop : tie.MeasureT-loop
 μ-loop out₀ filled records at₀ from₀ size₀ out at from size = length records - from
@@ -16,7 +16,7 @@ size-at-requires : tie.Need-size-at-requires Inv-loop μ-loop
 size-at-requires c κs = search needs
 
 loop-holds : tie.Need-loop-holds Inv-loop μ-loop
-loop-holds c = search needs
+loop-holds c = sending-start (c .size-at .result) (c .size-at .ensures)
 
 add-end : tie.Need-add-end Inv-loop μ-loop
 add-end c = search needs
@@ -31,7 +31,7 @@ part-put-record-end : tie.Need-part-put-record-end Inv-loop μ-loop
 part-put-record-end c = search needs
 
 put-record-requires : tie.Need-put-record-requires Inv-loop μ-loop
-put-record-requires c κs = search needs
+put-record-requires c κs = sending-whole (c .before .before .before .loop .inv) (c .before .before .loop-test .taken)
 
 sub-size-at : tie.Need-sub-size-at Inv-loop μ-loop
 sub-size-at c = search needs
@@ -49,13 +49,13 @@ loop-less : tie.Need-loop-less Inv-loop μ-loop
 loop-less c = search needs
 
 loop-again : tie.Need-loop-again Inv-loop μ-loop
-loop-again c = search needs
+loop-again c = sending-more (c .size-at2 .result) (c .before .before .before .before .before .before .before .before .loop .inv) (c .before .before .before .before .before .before .before .loop-test .taken) (c .before .before .before .before .put-record .kept .0) (c .size-at2 .ensures) (c .before .before .before .before .put-record .ensures)
 
 same-length : tie.Need-same-length Inv-loop μ-loop
-same-length c = search needs
+same-length c = c .before .loop .inv .room
 
 returns : tie.Need-returns Inv-loop μ-loop
-returns c = search needs
+returns c = sending-end (c .before .loop .inv) (c .loop-test .left)
 
 pub put-records-spec : {M : Type 1} → statement M
 put-records-spec =
