@@ -5,3 +5,4 @@ pub mod Private
 pub mod Joins
 pub mod Limits
 pub mod Watched
+pub mod Hearers

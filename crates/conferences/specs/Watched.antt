@@ -8,7 +8,7 @@ use Rattle.domain.specs.declared.Limits.{Limits}
 use Rattle.domain.specs.Tokens.{offered-to}
 use Rattle.domain.specs.Tables.{Domain, fresh, state}
 use Rattle.domain.specs.Good.{good}
-use Rattle.domain.specs.History.{open-offer, gain, held}
+use Rattle.domain.specs.History.{nothing-yet, begins, open-offer, gain, held}
 use Rattle.domain.specs.Claims.{Turn, Run, run, now, past, turned, holder, formed}
 use Rattle.conferences.specs.Offers.{turns as offers}
 use Rattle.conferences.specs.Private.{turns as private}
@@ -38,7 +38,7 @@ onward f r (t ∷ ts) = let rest = onward f (turned r t) ts in f r && rest
 
 -- and so from a fresh domain
 unfoldable pub always : (Run → Bool) → Conference → Bool
-always f c = onward f (run (fresh (c .0)) []) (c .1)
+always f c = onward f (run (fresh (c .0)) (begins nothing-yet)) (c .1)
 
 -- the tables' rules hold
 unfoldable pub good-now : Run → Bool

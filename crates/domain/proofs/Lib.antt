@@ -2,7 +2,10 @@ pub mod CellLaws
 pub mod Effects
 pub mod Opened
 pub mod Listed
+pub mod Sending
 pub mod invariant
+pub mod Answering
 pub mod holders
+pub mod hearers
 pub mod Requesting
 pub mod Turning

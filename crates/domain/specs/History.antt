@@ -1,6 +1,7 @@
--- How history names holders: what can be read of users, tokens and offers from events, replies and messages sent alone. No table is looked at.
-use Prim.Native.Nat.{ℕ, zero, suc, _+_}
-use mathlib.Core.Bool.{Bool, true, false, not, _&&_, _||_}
+-- How history names holders: what can be read of users, tokens and offers from events, replies and messages sent alone, and from what history begins with. No
+-- table is looked at.
+use Prim.Native.Nat.{ℕ}
+use mathlib.Core.Bool.{Bool, true, false, _&&_, _||_}
 use mathlib.Core.List.{List, [], _∷_}
 use mathlib.Core.Option.{Option, none, some}
 use lib.Dec.{eqb}
@@ -9,7 +10,7 @@ use Rattle.places.specs.Sets.{if_then_else_, any, keep, below, member}
 use Rattle.messages.specs.Named.{Message, EDrq, DPum, RJum, AUrq, AUcf, DUrq, DUin, CJrq, CJcf, CLrq, CCrq, CCcf, CDrq, CDin, CArq, CAin, CErq, CEin}
 use Rattle.messages.specs.Named.{TGrq, TGcf, TIrq, TIcf, TVrq, TVin, TVrs, TVcf, TPrq, TPin, TRrq, TRcf, TTrq, TTcf, successful, too-many-tokens}
 use Rattle.records.specs.Records.{Sent, to}
-use Rattle.domain.specs.Events.{Event, opens, loses, hears, Reading, reads, refuses}
+use Rattle.domain.specs.Events.{Event, opens, loses, hears, reads, refuses}
 
 -- an event as it was read, the reply, and the messages sent
 pub record Entry : Type 0 where
@@ -17,9 +18,36 @@ pub record Entry : Type 0 where
   pub reply : ℕ
   pub sent : List Sent
 
--- the last entry first
-abbrev pub History : Type 0
-History = List Entry
+-- how u came to hold a token
+pub data Gain : Type 0 where
+  nothing by-grab by-inhibit by-offer : Gain
+
+-- what history begins with: the connection of each user that counts as attached, how each user counts as holding a token, and the offers that count as open;
+-- the manager of each channel that counts as private, the users that count as admitted there, and the connections that count as told that they are joined
+pub record Start : Type 0 where
+  pub homes : ℕ → Option ℕ
+  pub gains : (k u : ℕ) → Gain
+  pub offered : (k r : ℕ) → Bool
+  pub managers : (c : ℕ) → Option ℕ
+  pub guests : (c u : ℕ) → Bool
+  pub joins : (c q : ℕ) → Bool
+
+-- with nothing: nobody is attached, holds anything or is offered anything, and no channel is private or joined
+unfoldable pub nothing-yet : Start
+nothing-yet = record {
+  homes = λ u. none;
+  gains = λ k u. nothing;
+  offered = λ k r. false;
+  managers = λ c. none;
+  guests = λ c u. false;
+  joins = λ c q. false;
+}
+
+-- entries on a start, the last entry first
+infixr 67 _▹_
+pub data History : Type 0 where
+  begins : Start → History
+  _▹_ : Entry → History → History
 
 -- what history reads of a message: a word, the users and the token of which it is said
 pub data Word : Type 0 where
@@ -136,27 +164,23 @@ arrives (to p m ∷ rs) u at = let r = arrives rs u at in if is attaches u 0 (re
 
 -- u is attached from its AUcf until it leaves: the connection
 unfoldable pub home : History → ℕ → Option ℕ
-home [] u = none
-home (e ∷ h) u = let at = home h u in arrives (e .sent) u (if leaves e at u then none else at)
+home (begins s) u = s .homes u
+home (e ▹ h) u = let at = home h u in arrives (e .sent) u (if leaves e at u then none else at)
 
 -- An offer to r opens with TVin and closes with a TVrs from r that is answered 0, or when r leaves
 unfoldable pub open-offer : History → ℕ → ℕ → Bool
-open-offer [] k r = false
-open-offer (e ∷ h) k r =
+open-offer (begins s) k r = s .offered k r
+open-offer (e ▹ h) k r =
     let before = open-offer h k r in
     if told e offers r k then true
     else if said e (home h r) accepts r k || said e (home h r) declines r k || leaves e (home h r) r then false
     else before
 
--- how u came to hold a token
-pub data Gain : Type 0 where
-  nothing by-grab by-inhibit by-offer : Gain
-
 -- u gains k by a successful TGcf or TIcf to u, or by a TVrs of success from u while an offer to u is open. u loses it by a successful TRcf or TVcf
 -- to u, or by leaving. In one event losses come first
 unfoldable pub gain : History → ℕ → ℕ → Gain
-gain [] k u = nothing
-gain (e ∷ h) k u =
+gain (begins s) k u = s .gains k u
+gain (e ▹ h) k u =
     let before = gain h k u in
     if told e grabs u k then by-grab
     else if told e inhibits u k then by-inhibit

@@ -10,5 +10,6 @@ pub mod Events
 pub mod Good
 pub mod History
 pub mod Claims
+pub mod Hearers
 pub mod Joined
 pub mod Outcomes

@@ -1,7 +1,7 @@
 -- The tables of the domain: who is where, which channels are in use, who has which token, and how a table changes as a whole. A table is the list
 -- of its places' ids, 0 for a free place, and the list of what stands there.
 use Prim.Native.Nat.{ℕ, zero, suc, _+_}
-use mathlib.Core.Bool.{Bool, true, false, not, _&&_, _||_}
+use mathlib.Core.Bool.{Bool, true, false, not, _&&_, _||_, So}
 use mathlib.Core.List.{List, [], _∷_, _++_, map}
 use mathlib.Core.Option.{Option, none, some}
 use lib.Dec.{eqb, leb, ltb}
@@ -15,7 +15,7 @@ use Rattle.domain.specs.declared.token.Holding.the-variants.{Free, Grabb
 use Rattle.domain.specs.declared.token.Token.{Token}
 use Rattle.domain.specs.Cells.{no-channel, no-token, kind, with-marks, hold, token-of}
 use Rattle.places.specs.Sets.{if_then_else_, any, below, has, those, with, without, minus, meet, links, seats}
-use Rattle.places.specs.Places.{Place, At, Nowhere, find, spare, seat, used, store, load, becomes, sweep, unused}
+use Rattle.places.specs.Places.{Place, At, Nowhere, find, found, spare, seat, used, store, load, becomes, sweep, unused}
 
 pub record Users : Type 0 where
   pub ids : List ℕ
@@ -35,6 +35,11 @@ pub record Domain : Type 0 where
   pub users : Users
   pub channels : Channels
   pub tokens : Tokens
+
+-- what is said of a place, or of an id that has none
+abbrev pub seen : {A : Type 0} (at : Place) (none-there : A) (of-place : (ℕ → A)) → A
+seen (At i) z f = f i
+seen Nowhere z f = z
 
 -- ---- the columns: a table is lent as one array of numbers for each part of a place
 
@@ -191,6 +196,14 @@ at-limit limit ids = leb limit (used ids)
 -- the id that a new user, assigned or private channel gets
 unfoldable pub grant : Channels → ℕ
 grant cs = unused 128 (cs .ids) 1001
+
+-- an id from 1001 that no channel has, so no user either: it may be handed out
+abbrev pub free-id : Channels → ℕ → Bool
+free-id cs new = between 1001 65535 new && not (found (find (cs .ids) new))
+
+-- "theirs to choose among free ones from 1001" (T-10)
+abbrev pub Free-id : Domain → ℕ → Type 0
+Free-id d new = So (free-id (d .channels) new)
 
 -- the domain of all its columns
 abbrev pub domain-of : (l : Limits) (m : ℕ) (names homes ids roles chairs guests marks keys modes values : List ℕ) → Domain

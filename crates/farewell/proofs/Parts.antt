@@ -7,6 +7,7 @@ use native.Mathlib.Omega.{arith}
 use lib.ListN.{length, take, getD, length-append}
 use Rattle.places.specs.Sets.{if_then_else_, null, each, has, with, meet, links, seats}
 use Rattle.places.specs.Places.{Place, At, Nowhere, find, load, number, inOrder}
+use Rattle.places.proofs.Order.{in-order-length}
 use Rattle.messages.specs.Named.{DUin, CDin, TVcf, no-such-user}
 use Rattle.records.specs.Records.{Sent, to, tell, wire, records, framed}
 use Rattle.records.specs.Out.{Puts, guarded, listing, told}
@@ -25,7 +26,7 @@ use Rattle.domain.specs.Tokens.{status, lose}
 use Rattle.domain.specs.Leaving.{ended, returned, farewell}
 use Rattle.domain.proofs.CellLaws.{channel-none}
 use Rattle.farewell.specs.Parts.{parting, kind-at, end-at, return-at}
-use Rattle.farewell.proofs.Rounds.{in-order-length, each-length}
+use Rattle.farewell.proofs.Rounds.{each-length}
 
 -- ---- DUin
 module _ (reason : ℕ) (ids : List ℕ) (r : reason < 256) (h : length ids ≤ 64) where

@@ -1,7 +1,7 @@
 -- Records for each id of a column, ascending: what is still to come, and how many octets they take.
 use mathlib.Core.Path.{_≡_, refl, sym, ap, _∙_}
 use mathlib.Core.List.{List, [], _∷_, _++_}
-use Prim.Native.Nat.{ℕ, zero, suc, _+_, _-_, _*_, _≤_, _<_, zero-le, suc-le-suc}
+use Prim.Native.Nat.{ℕ, zero, suc, _+_, _-_, _*_, _≤_, _<_, zero-le}
 use native.Mathlib.Nat.{suc-mul}
 use native.Mathlib.Omega.{arith}
 use lib.ListN.{length, length-append}
@@ -10,19 +10,6 @@ use Rattle.places.specs.Places.{next, rising, inOrder}
 use Rattle.places.proofs.Turns.{rising-turn, rising-end}
 use Rattle.records.specs.Records.{Sent, records}
 use Rattle.records.proofs.Telling.{records-append, records-none}
-
-rising-length : (n low : ℕ) (ids : List ℕ) → length (rising n low ids) ≤ n
-unfolding rising
-rising-length zero low ids = zero-le
-rising-length (suc n) low ids = go (next low 0 ids) (λ y. rising-length n y ids)
-  where
-    go : (y : ℕ) → ((z : ℕ) → length (rising n z ids) ≤ n) → length {A = ℕ} (elim y as (λ (_ : ℕ). List ℕ) [ zero ↦ [] | suc z ↦ suc z ∷ rising n (suc z) ids ]) ≤ suc n
-    go zero r = zero-le
-    go (suc z) r = suc-le-suc (r (suc z))
-
-pub in-order-length : (ids : List ℕ) → length (inOrder ids) ≤ length ids
-unfolding inOrder
-in-order-length ids = rising-length (length ids) 0 ids
 
 module _ (f : ℕ → List Sent) where
   -- what the ids above `low` are still to bring

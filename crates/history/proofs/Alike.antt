@@ -2,7 +2,6 @@
 -- Assumes nothing.
 use mathlib.Core.Path.{_≡_, refl, ap, ap₂}
 use mathlib.Core.Bool.{Bool, true, false, _&&_, _||_}
-use mathlib.Core.List.{[], _∷_}
 use mathlib.Core.Option.{Option, none, some}
 use Prim.Native.Nat.{ℕ}
 use borrow.Author.Tests.{eqb-true}
@@ -10,7 +9,7 @@ use lib.Dec.{eqb}
 use lib.ListN.{length}
 use Rattle.places.specs.Sets.{any, keep, below}
 use Rattle.domain.specs.Events.{Event}
-use Rattle.domain.specs.History.{Entry, History, Word, detaches, closes, grabs, inhibits, yields, offers, accepts, declines, link-of, asks, same, is, told, said, closed, leaves, home, open-offer}
+use Rattle.domain.specs.History.{Entry, Start, History, begins, _▹_, Word, detaches, closes, grabs, inhibits, yields, offers, accepts, declines, link-of, asks, same, is, told, said, closed, leaves, home, open-offer}
 use Rattle.domain.specs.History.{gain, held, every-id, busy, count}
 
 -- the same reply and messages, and the same event where the reply is 0
@@ -21,10 +20,10 @@ pub record Like (a b : Entry) : Type 0 where
 
 -- entry by entry
 abbrev pub Alike : History → History → Type 0
-Alike [] [] = Unit {0}
-Alike [] (b ∷ h) = ⊥
-Alike (a ∷ g) [] = ⊥
-Alike (a ∷ g) (b ∷ h) = Like a b × Alike g h
+Alike (begins s) (begins t) = s ≡ t
+Alike (begins s) (b ▹ h) = ⊥
+Alike (a ▹ g) (begins t) = ⊥
+Alike (a ▹ g) (b ▹ h) = Like a b × Alike g h
 
 -- ---- one entry
 module _ {a b : Entry} (l : Like a b) where
@@ -63,18 +62,18 @@ module _ {a b : Entry} (l : Like a b) where
 -- where a user is attached
 pub home-alike : (g h : History) → Alike g h → (u : ℕ) → home g u ≡ home h u
 unfolding home
-home-alike [] [] s u = refl
-home-alike [] (b ∷ h) s u = absurd s
-home-alike (a ∷ g) [] s u = absurd s
-home-alike (a ∷ g) (b ∷ h) s u = rw (home-alike g h (s .1) u, leaves-alike (s .0) (home h u) u, s .0 .sent) refl
+home-alike (begins x) (begins y) s u = ap (λ (z : Start). z .homes u) s
+home-alike (begins x) (b ▹ h) s u = absurd s
+home-alike (a ▹ g) (begins y) s u = absurd s
+home-alike (a ▹ g) (b ▹ h) s u = rw (home-alike g h (s .1) u, leaves-alike (s .0) (home h u) u, s .0 .sent) refl
 
 -- which offers are open
 pub offer-alike : (g h : History) → Alike g h → (k r : ℕ) → open-offer g k r ≡ open-offer h k r
 unfolding open-offer
-offer-alike [] [] s k r = refl
-offer-alike [] (b ∷ h) s k r = absurd s
-offer-alike (a ∷ g) [] s k r = absurd s
-offer-alike (a ∷ g) (b ∷ h) s k r =
+offer-alike (begins x) (begins y) s k r = ap (λ (z : Start). z .offered k r) s
+offer-alike (begins x) (b ▹ h) s k r = absurd s
+offer-alike (a ▹ g) (begins y) s k r = absurd s
+offer-alike (a ▹ g) (b ▹ h) s k r =
     let l = s .0 in
     let at = home h r in
     rw (told-alike l offers r k, home-alike g h (s .1) r, said-alike l at accepts r k, said-alike l at declines r k, leaves-alike l at r, offer-alike g h (s .1) k r) refl
@@ -82,10 +81,10 @@ offer-alike (a ∷ g) (b ∷ h) s k r =
 -- how a user came to hold a token
 pub gain-alike : (g h : History) → Alike g h → (k u : ℕ) → gain g k u ≡ gain h k u
 unfolding gain
-gain-alike [] [] s k u = refl
-gain-alike [] (b ∷ h) s k u = absurd s
-gain-alike (a ∷ g) [] s k u = absurd s
-gain-alike (a ∷ g) (b ∷ h) s k u =
+gain-alike (begins x) (begins y) s k u = ap (λ (z : Start). z .gains k u) s
+gain-alike (begins x) (b ▹ h) s k u = absurd s
+gain-alike (a ▹ g) (begins y) s k u = absurd s
+gain-alike (a ▹ g) (b ▹ h) s k u =
     let l = s .0 in
     let at = home h u in
     rw (told-alike l grabs u k, told-alike l inhibits u k, told-alike l yields u k, home-alike g h (s .1) u)

@@ -19,21 +19,22 @@ use Rattle.domain.proofs.invariant.GoodIsSound.{good-sound}
 use Rattle.domain.specs.Outcomes.{turned as answer-turned, after}
 use Rattle.provider.proofs.Replies.{Comes, complained, Answering, answering, reply-listed, tables-unchanged, complaint-sent, full-is-9, fits-is-sent}
 use Rattle.provider.proofs.Room.{Sized, Arrives, never-9}
+use Rattle.imaging.specs.Claims.{restored}
 use Rattle.history.specs.Recorded.{Call, opening, losing, message}
-use Rattle.history.specs.Served.{event, Turn, Bytewise, tables, serves, started}
-use Rattle.history.specs.Always.{refusal, demand-1, room-enough}
+use Rattle.history.specs.Served.{event, Turn, Bytewise, run, tables, serves, started}
+use Rattle.history.specs.Always.{refusal, demand-1, room-enough, enough-after-image}
 use Rattle.history.proofs.AsHeard.{understood-by}
-use Rattle.history.proofs.Runs.{run-good}
+use Rattle.history.proofs.Runs.{run-good, image-good}
 
 -- a call comes as an event of the provider
-comes : (c : Call) → Comes (event c)
+pub comes : (c : Call) → Comes (event c)
 unfolding event
 comes (opening p) = tt
 comes (losing p) = tt
 comes (message p os) = (os, refl)
 
 -- with its octets
-arrives : (c : Call) → Bytewise c → Arrives (event c)
+pub arrives : (c : Call) → Bytewise c → Arrives (event c)
 unfolding event
 arrives (opening p) y = tt
 arrives (losing p) y = tt
@@ -122,7 +123,7 @@ always d c out =
     }
 
 -- ---- good tables have the sizes that are lent
-good-sized : (d : Domain) → Good d → Sized d
+pub good-sized : (d : Domain) → Good d → Sized d
 good-sized d g =
     let s = good-sound d g in
     record {
@@ -137,3 +138,10 @@ unfolding after answer-turned
 enough channels users tokens before ts z y t b h q =
     let r = serves (started channels users tokens before) ts in
     never-9 (tables r) (good-sized (tables r) (run-good channels users tokens before ts z y)) (length (t .1)) h (event (t .0)) (arrives (t .0) b) q
+
+-- nor in any run from an image
+pub enough-image : (image : List ℕ) (before : Domain) (ts : List Turn) → enough-after-image image before ts
+unfolding after answer-turned
+enough-image image before ts z i y t b h q =
+    let r = serves (run (restored image before .1) []) ts in
+    never-9 (tables r) (good-sized (tables r) (image-good image before ts z i y)) (length (t .1)) h (event (t .0)) (arrives (t .0) b) q

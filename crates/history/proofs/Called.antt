@@ -1,5 +1,5 @@
 -- What the public functions did, one call after another, is a run; and each one's promise is a call. Assumes nothing.
-use mathlib.Core.Path.{_≡_, refl, ap, _∙_}
+use mathlib.Core.Path.{_≡_, refl, sym, ap, _∙_}
 use mathlib.Core.List.{List, [], _∷_}
 use Prim.Native.Nat.{ℕ}
 use Rattle.domain.specs.declared.answer.Answer.{Answer}
@@ -8,10 +8,10 @@ use Rattle.domain.specs.Numbers.{replyNumber}
 use Rattle.domain.specs.Tables.{Domain, put-links}
 use Rattle.domain.specs.Effects.{Settled, settled, answered}
 use Rattle.domain.specs.Events.{opens, loses, hears}
-use Rattle.domain.specs.Outcomes.{after}
+use Rattle.domain.specs.Outcomes.{after, begun}
 use Rattle.understanding.specs.Understood.{understood}
 use Rattle.history.specs.Recorded.{opening, losing, message, Note, note}
-use Rattle.history.specs.Served.{Turn, event, Run, run, tables, notes, noting, noted, served, serves, Calls, no-more, then-calls}
+use Rattle.history.specs.Served.{Turn, event, Run, run, tables, notes, noting, noted, served, serves, started, Calls, no-more, then-calls}
 
 -- call by call, by the promises alone
 pub calls-run : {r : Run} {ts : List Turn} {q : Run} → Calls r ts q → q ≡ serves r ts
@@ -19,6 +19,16 @@ unfolding serves served tables notes
 calls-run no-more = refl
 calls-run (then-calls {ns = ns} {c = c} {ts = ts} a h rest) =
     calls-run rest ∙ ap (λ (s : Settled Domain). serves (run (s .tables) (noting c s ∷ ns)) ts) h
+
+-- what holds of the run from a domain just made holds of what was called from the tables that `start` left with reply 0
+pub start-calls : (P : Run → Type 0) (channels users tokens : ℕ) (before : Domain) (ts : List Turn)
+    → (begun channels users tokens before .0 ≡ 0 → P (serves (started channels users tokens before) ts))
+    → (d : Domain) → _≡_ {A = ℕ × Domain} (0, d) (begun channels users tokens before) → (r : Run) → Calls (run d []) ts r → P r
+unfolding started
+start-calls P channels users tokens before ts law d z r c =
+    let e : run d [] ≡ started channels users tokens before = ap (λ (x : ℕ × Domain). run (x .1) []) z in
+    let q : r ≡ serves (started channels users tokens before) ts = calls-run c ∙ ap (λ (x : Run). serves x ts) e in
+    rw q (law (sym (ap (λ (x : ℕ × Domain). x .0) z)))
 
 -- `open`, `lose` and `message`, by what each promises
 module _ (ns : List Note) (p : ℕ) where

@@ -13,7 +13,7 @@ use Rattle.records.specs.Records.{Sent, records}
 use Rattle.domain.specs.Tables.{Domain, grant, between}
 use Rattle.domain.specs.Events.{step}
 use Rattle.domain.specs.Good.{Good}
-use Rattle.domain.specs.History.{Entry, History}
+use Rattle.domain.specs.History.{Entry, Start, History, _▹_}
 use Rattle.domain.specs.Claims.{formed, Turn as EventTurn, Run as EventRun, run as event-run, now, past, turned, goes}
 use Rattle.domain.proofs.invariant.Sound.{between-is}
 use Rattle.domain.proofs.invariant.GoodIsSound.{good-sound}
@@ -58,13 +58,14 @@ note-like r t g y = record {
 }
 
 -- the same tables, and histories that say the same
-pub record Follows (r : Run) (q : EventRun) : Type 0 where
+pub record Follows (s : Start) (r : Run) (q : EventRun) : Type 0 where
   pub same-tables : tables r ≡ now q
-  pub alike : Alike (read (notes r)) (past q)
+  pub alike : Alike (read s (notes r)) (past q)
 
 -- turn by turn, from any good tables and histories that say the same
-pub follows : (ts : List Turn) (r : Run) (h : History) → Good (tables r) → Alike (read (notes r)) h → All-bytewise ts → Follows (serves r ts) (goes (event-run (tables r) h) (map as-event ts))
+pub follows : (b : Start) (ts : List Turn) (r : Run) (h : History) → Good (tables r) → Alike (read b (notes r)) h → All-bytewise ts
+    → Follows b (serves r ts) (goes (event-run (tables r) h) (map as-event ts))
 unfolding serves goes turned now past served tables notes read after answer-turned
-follows [] r h g s y = record { same-tables = refl; alike = s }
-follows (t ∷ ts) r h g s y =
-    follows ts (served r t) (entry (tables r) t ∷ h) (good-next (tables r) g (event (t .0)) (length (t .1)) (event-formed (t .0) (y .0))) (note-like r t g (y .0), s) (y .1)
+follows b [] r h g s y = record { same-tables = refl; alike = s }
+follows b (t ∷ ts) r h g s y =
+    follows b ts (served r t) (entry (tables r) t ▹ h) (good-next (tables r) g (event (t .0)) (length (t .1)) (event-formed (t .0) (y .0))) (note-like r t g (y .0), s) (y .1)

@@ -10,6 +10,9 @@ pub mod Follows
 pub mod Runs
 pub mod Called
 pub mod Demand
+pub mod Begins
+pub mod Hearers
 pub mod Answering
 pub mod OneOutcome
 pub mod Worked
+pub mod Restart

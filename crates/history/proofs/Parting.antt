@@ -7,6 +7,7 @@ use native.Mathlib.Omega.{arith}
 use lib.ListN.{length, getD}
 use Rattle.places.specs.Sets.{if_then_else_, null, each, once, has, with, meet, links, seats}
 use Rattle.places.specs.Places.{Place, At, Nowhere, find, inOrder, load}
+use Rattle.places.proofs.Order.{in-order-length}
 use Rattle.places.proofs.Rows.{find-holds}
 use Rattle.messages.specs.Named.{DUin, CDin}
 use Rattle.messages.proofs.NamedLaws.{User, Token, Users}
@@ -21,7 +22,6 @@ use Rattle.domain.specs.Tables.{Users as Names, Domain, hosts, state}
 use Rattle.domain.specs.Channels.{places}
 use Rattle.domain.specs.Leaving.{ended, returned, farewell, leave, those-on, detach, close}
 use Rattle.domain.proofs.invariant.Sound.{Sort, Held, Sound}
-use Rattle.farewell.proofs.Rounds.{in-order-length}
 use Rattle.provider.proofs.Room.{once-le}
 use Rattle.history.proofs.ReadBack.{Readables}
 use Rattle.history.proofs.Readables.{confirm-readable, CDin-readable, DUin-readable}

@@ -26,14 +26,14 @@ Readables [] = Unit {0}
 Readables (to q m ∷ rs) = Readable m × Readables rs
 
 -- its octets are heard as it
-wire-heard : (m : Message) → Readable m → heard (wire m) ≡ ok m
+pub wire-heard : (m : Message) → Readable m → heard (wire m) ≡ ok m
 unfolding wire
 wire-heard m r = sent-heard m (wire m) (formed-sent m (r .ranged) (r .few))
 
 -- ---- a record from the start of octets
 module _ (w : List ℕ) (q : ℕ) (rest : List ℕ) where
   -- as many octets follow as it has
-  framed-size : size (framed w q ++ rest) ≡ length w + 2
+  pub framed-size : size (framed w q ++ rest) ≡ length w + 2
   unfolding size framed
   framed-size = omega arith
 
@@ -45,14 +45,14 @@ module _ (w : List ℕ) (q : ℕ) (rest : List ℕ) where
       rw (framed-size, le-leb 2 (length w + 2) (omega arith), there) refl
 
   -- its message is there
-  framed-inside : inside (framed w q ++ rest) ≡ w
+  pub framed-inside : inside (framed w q ++ rest) ≡ w
   unfolding inside framed
   framed-inside =
       let shown : size (framed w q ++ rest) - 2 ≡ length w = omega (arith, framed-size) in
       ap (λ (n : ℕ). take n (drop 4 (framed w q ++ rest))) shown ∙ take-append-seam w rest
 
   -- and the next record behind it
-  framed-behind : drop (2 + size (framed w q ++ rest)) (framed w q ++ rest) ≡ rest
+  pub framed-behind : drop (2 + size (framed w q ++ rest)) (framed w q ++ rest) ≡ rest
   unfolding framed
   framed-behind =
       let past : 2 + size (framed w q ++ rest) ≡ suc (suc (suc (suc (length w)))) = omega (arith, framed-size) in
@@ -81,7 +81,7 @@ read-all (to q m ∷ rs) (suc n) h r =
     ∙ rw (wire-heard m (r .0), read-all rs n (omega arith) (r .1)) refl
 
 -- a record has an octet at least
-records-more : (rs : List Sent) → length rs ≤ length (records rs)
+pub records-more : (rs : List Sent) → length rs ≤ length (records rs)
 unfolding records octets
 records-more [] = zero-le
 records-more (to q m ∷ rs) = omega (arith, records-more rs, length-append (framed (wire m) q) (records rs), framed-length (wire m) q)

@@ -2,7 +2,7 @@
 use mathlib.Core.Path.{_≡_, refl}
 use mathlib.Core.Option.{Option, none, some}
 use Prim.Native.Nat.{ℕ}
-use Rattle.domain.specs.History.{home, Gain, nothing, by-grab, gain}
+use Rattle.domain.specs.History.{nothing-yet, home, Gain, nothing, by-grab, gain}
 use Rattle.domain.proofs.Opened.{opened}
 use Rattle.domain.specs.Outcomes.{turned, after, begun}
 use Rattle.understanding.specs.Understood.{number-in, read-as, understood}
@@ -16,11 +16,11 @@ unfolding opened number-in read-as understood turned after begun event tables no
 as-noted = refl
 
 -- 1001 is attached on 2 and holds token 1 until the loss
-pub grabbed : _≡_ {A = Option ℕ × Gain} (home (read held-notes) 1001, gain (read held-notes) 1 1001) (some 2, by-grab)
+pub grabbed : _≡_ {A = Option ℕ × Gain} (home (read nothing-yet held-notes) 1001, gain (read nothing-yet held-notes) 1 1001) (some 2, by-grab)
 unfolding opened read-as read-call size is-record inside carried read-some read-records read-note read attaching grabbing held-notes
 grabbed = refl
 
 -- and then nothing
-pub lost : _≡_ {A = Option ℕ × Gain} (home (read all-notes) 1001, gain (read all-notes) 1 1001) (none, nothing)
+pub lost : _≡_ {A = Option ℕ × Gain} (home (read nothing-yet all-notes) 1001, gain (read nothing-yet all-notes) 1 1001) (none, nothing)
 unfolding opened read-as read-call size is-record inside carried read-some read-records read-note read attaching grabbing held-notes all-notes
 lost = refl

@@ -9,8 +9,10 @@ use Rattle.domain.specs.Effects.{Settled}
 use Rattle.domain.specs.Good.{Good}
 use Rattle.domain.specs.Events.{complaint}
 use Rattle.domain.specs.Outcomes.{begun, after}
+use Rattle.octets.specs.Octets.{Bytes}
+use Rattle.imaging.specs.Claims.{restored}
 use Rattle.history.specs.Recorded.{Call, opening, losing, message}
-use Rattle.history.specs.Served.{event, Turn, Bytewise, All-bytewise, tables, noted, serves, started}
+use Rattle.history.specs.Served.{event, Turn, Bytewise, All-bytewise, run, tables, noted, serves, started}
 
 -- what is sent with a reply other than 0: nothing, or with 5 and 6 the one RJum
 unfoldable pub refusal : Call → ℕ → List Sent
@@ -44,3 +46,13 @@ module _ (channels users tokens : ℕ) (before : Domain) (ts : List Turn) where
   room-enough =
       begun channels users tokens before .0 ≡ 0 → All-bytewise ts
       → (t : Turn) → Bytewise (t .0) → 17200 ≤ length (t .1) → noted (serves (started channels users tokens before) ts) t .reply ≡ 9 → ⊥
+
+-- the same from the tables that are read from an image with reply 0
+module _ (image : List ℕ) (before : Domain) (ts : List Turn) where
+  abbrev pub good-after-image : Type 0
+  good-after-image = restored image before .0 ≡ 0 → Bytes image → All-bytewise ts → Good (tables (serves (run (restored image before .1) []) ts))
+
+  abbrev pub enough-after-image : Type 0
+  enough-after-image =
+      restored image before .0 ≡ 0 → Bytes image → All-bytewise ts
+      → (t : Turn) → Bytewise (t .0) → 17200 ≤ length (t .1) → noted (serves (run (restored image before .1) []) ts) t .reply ≡ 9 → ⊥

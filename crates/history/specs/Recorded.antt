@@ -1,7 +1,7 @@
 -- What a person can record of a run: each call with its octets, the reply, and the octets sent; and how that is read. No table is looked at.
 use Prim.Native.Nat.{ℕ, zero, suc, _+_, _-_, _*_}
 use mathlib.Core.Bool.{Bool, _&&_}
-use mathlib.Core.List.{List, [], _∷_, _++_, map}
+use mathlib.Core.List.{List, [], _∷_, _++_}
 use lib.Dec.{eqb, leb}
 use lib.ListN.{length, getD, take, drop}
 use Rattle.places.specs.Sets.{if_then_else_}
@@ -9,7 +9,7 @@ use Rattle.messages.specs.Codec.{Outcome, ok, refuse}
 use Rattle.messages.specs.Named.{Message, heard}
 use Rattle.records.specs.Records.{Sent, to}
 use Rattle.domain.specs.Events.{Event, opens, loses, hears}
-use Rattle.domain.specs.History.{Entry, History}
+use Rattle.domain.specs.History.{Entry, Start, History, begins, _▹_}
 use Rattle.understanding.specs.Understood.{read-as}
 
 -- "Events: open connection p, lose connection p, message on p", a message with its octets
@@ -67,6 +67,7 @@ read-records os = read-some (length os) os
 unfoldable pub read-note : Note → Entry
 read-note n = record { event = read-call (n .call); reply = n .reply; sent = read-records (n .sent) }
 
--- the last one first
-unfoldable pub read : List Note → History
-read ns = map read-note ns
+-- the last one first, on what history begins with
+unfoldable pub read : (s : Start) (ns : List Note) → History
+read s [] = begins s
+read s (n ∷ ns) = read-note n ▹ read s ns

@@ -156,6 +156,20 @@ pub in-order-has : (ids : List ℕ) (x : ℕ) → member x ids ≡ true → 0 < 
 unfolding inOrder above
 in-order-has ids x m h = rising-has (length ids) 0 ids x (keep-le (ltb 0) ids) m h
 
+-- there are no more ids in order than ids
+rising-length : (n low : ℕ) (ids : List ℕ) → length (rising n low ids) ≤ n
+unfolding rising
+rising-length zero low ids = zero-le
+rising-length (suc n) low ids = go (next low 0 ids) (λ y. rising-length n y ids)
+  where
+    go : (y : ℕ) → ((z : ℕ) → length (rising n z ids) ≤ n) → length {A = ℕ} (elim y as (λ (_ : ℕ). List ℕ) [ zero ↦ [] | suc z ↦ suc z ∷ rising n (suc z) ids ]) ≤ suc n
+    go zero r = zero-le
+    go (suc z) r = suc-le-suc (r (suc z))
+
+pub in-order-length : (ids : List ℕ) → length (inOrder ids) ≤ length ids
+unfolding inOrder
+in-order-length ids = rising-length (length ids) 0 ids
+
 -- ---- a free id
 
 -- no more ids above `low` than tries: one of them is free

@@ -10,7 +10,7 @@ use lib.Dec.{eqb, ltb}
 use lib.ListN.{length, take, length-take}
 use Rattle.places.specs.Sets.{if_then_else_, keep, any, null, each, upto, below, member, firsts, once, has, with, links, seats}
 use Rattle.places.specs.Places.{Place, At, Nowhere, find, found, inOrder}
-use Rattle.places.proofs.Order.{keep-le}
+use Rattle.places.proofs.Order.{keep-le, in-order-length}
 use Rattle.octets.specs.Octets.{Bytes}
 use Rattle.messages.specs.Messages.{entry, row, may-go-up, is-served}
 use Rattle.messages.specs.Codec.{octetsOfMsg, sized, Outcome as Read, ok, refuse}
@@ -34,7 +34,7 @@ use Rattle.domain.specs.Channels.{attach, may, join-at, join-new, join, joined,
 use Rattle.domain.specs.Passing.{turn, take-token, share-token, drop-token, offer, informed, answer, please, test}
 use Rattle.domain.specs.Leaving.{leave, those-on, detach, close}
 use Rattle.domain.specs.Events.{Reading, reads, refuses, Event, opens, loses, hears, stays, sends, ends, complaint, act, answers, step-with, step, users-full, channels-full, tokens-full}
-use Rattle.farewell.proofs.Rounds.{in-order-length, each-length}
+use Rattle.farewell.proofs.Rounds.{each-length}
 use Rattle.farewell.proofs.Parts.{farewell-length}
 use Rattle.understanding.specs.Understood.{number-in, read-as, understood}
 use Rattle.refusing.proofs.Rejecting.{rejection-length}

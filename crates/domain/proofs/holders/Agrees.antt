@@ -1,7 +1,7 @@
 -- The relation between a history and the tables: each user's connection, and what it holds and is offered of each token. What keeps it. Assumes nothing.
 use mathlib.Core.Path.{_≡_, refl, sym, ap, ap₂, _∙_}
 use mathlib.Core.Bool.{Bool, true, false, _&&_}
-use mathlib.Core.List.{List, _∷_}
+use mathlib.Core.List.{List}
 use mathlib.Core.Option.{none, some}
 use Prim.Native.Nat.{ℕ, _<_, _≤_}
 use native.Mathlib.Nat.{lt-of-lt-of-le}
@@ -15,17 +15,13 @@ use Rattle.places.proofs.Rows.{At≢Nowhere, find-holds, same-place}
 use Rattle.domain.specs.Tables.{Users, Tokens, Domain, link, state}
 use Rattle.domain.specs.declared.token.Holding.{Holding}
 use Rattle.domain.specs.declared.token.Holding.the-variants.{Free, Grabbed, Inhibited, Giving, Given}
+pub use Rattle.domain.specs.Tables.{seen}
 use Rattle.domain.specs.Events.{Event, Outcome, stays, sends, ends}
 use Rattle.domain.specs.Effects.{Effect, ignored, done, from, within}
-use Rattle.domain.specs.History.{Entry, History, Word, grabs, inhibits, yields, offers, accepts, declines, other, code, same, unread, asks, told, said, leaves}
+use Rattle.domain.specs.History.{Entry, History, _▹_, Word, grabs, inhibits, yields, offers, accepts, declines, other, code, same, unread, asks, told, said, leaves}
 use Rattle.domain.specs.History.{home, nothing, by-grab, by-inhibit}
 use Rattle.domain.proofs.invariant.From.{from-by}
 use Rattle.domain.proofs.holders.Heard.{Mark, mark, heard, mark-step, mutes, mute, hush, idle, idle-reply, idle-unread, home-silent, mark-silent}
-
--- what is said of a place, and of no place
-abbrev pub seen : {A : Type 0} → Place → A → (ℕ → A) → A
-seen (At i) z f = f i
-seen Nowhere z f = z
 
 -- how one stands who holds nothing and is offered nothing
 abbrev pub nobody : Mark
@@ -50,7 +46,7 @@ entry ev o = record { event = ev; reply = o .reply; sent = o .sent }
 
 -- the event went well: the relation holds after it, and the limits are the same
 pub record Went (h : History) (d : Domain) (ev : Event) (o : Outcome) : Type 0 where
-  pub agrees : Agrees (entry ev o ∷ h) (o .domain .users) (o .domain .tokens)
+  pub agrees : Agrees (entry ev o ▹ h) (o .domain .users) (o .domain .tokens)
   pub limits : o .domain .limits ≡ d .limits
 
 -- what a request does goes well; one that is ignored leaves nothing to show
@@ -116,11 +112,11 @@ module _ (h : History) (us : Users) (ts : Tokens) (a : Agrees h us ts) (few : le
       → ((k : ℕ) → state after k ≡ (if eqb k k₀ then now else state ts k))
       → (c i : ℕ) → find (us .ids) x ≡ At c → find (us .ids) y ≡ At i
       → ((u : ℕ) → leaves e (home h u) u ≡ false)
-      → ((u : ℕ) → home (e ∷ h) u ≡ home h u)
+      → ((u : ℕ) → home (e ▹ h) u ≡ home h u)
       → ((w : Word) → read-word w → (u k : ℕ) → told e w u k ≡ (eqb k k₀ && eqb u x && same w sw))
       → ((w : Word) → same w other ≡ false → (u k : ℕ) → said e (home h u) w u k ≡ (eqb k k₀ && eqb u y && same w aw))
       → ((j : ℕ) → j < 64 → shifts sw aw (eqb c j) (eqb i j) (stand was j) ≡ stand now j)
-      → Agrees (e ∷ h) us after
+      → Agrees (e ▹ h) us after
   unfolding same code
   token-agrees old set c i theirs mine here homely tells says law = record {
     homes = λ u. homely u ∙ a .homes u;

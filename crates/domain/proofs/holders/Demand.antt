@@ -1,7 +1,7 @@
 -- Demand 3: the four claims of every run from a fresh domain. Assumes nothing.
 use mathlib.Core.Path.{_≡_, refl, ap, _∙_}
 use mathlib.Core.Bool.{not, _&&_, _||_, So}
-use mathlib.Core.List.{List, []}
+use mathlib.Core.List.{List}
 use Prim.Native.Nat.{ℕ, zero, suc}
 use native.Mathlib.Omega.{arith}
 use lib.Dec.{leb, ltb}
@@ -16,8 +16,8 @@ use Rattle.domain.specs.Events.{tokens-full, hears, reads, act, answers,
 use Rattle.domain.specs.Tokens.{grab, inhibit}
 use Rattle.domain.specs.Passing.{take-token, share-token}
 use Rattle.domain.specs.Good.{Good}
-use Rattle.domain.specs.History.{History, grabs, inhibits, code, same, reading, home, gain, open-offer, busy, count}
-use Rattle.domain.specs.Claims.{Turn, Run, run, now, past, turned, goes, from-fresh, formed, demand-3}
+use Rattle.domain.specs.History.{History, nothing-yet, begins, grabs, inhibits, code, same, reading, home, gain, open-offer, busy, count}
+use Rattle.domain.specs.Claims.{Turn, Run, run, now, past, turned, goes, from-fresh, formed, Claims, demand-3}
 use Rattle.domain.proofs.invariant.Fresh.{fresh-good}
 use Rattle.domain.proofs.invariant.Sound.{Sound}
 use Rattle.domain.proofs.invariant.GoodIsSound.{good-sound}
@@ -46,8 +46,8 @@ unfolding find
 empty-find zero = refl
 empty-find (suc u) = rw (ne-eqb (suc u) 0 (λ e. omega arith)) (empty-first (suc u) 0 64 (λ e. omega arith))
 
-faithful-fresh : (l : Limits) → So (in-range l) → Faithful l (run (fresh l) [])
-unfolding now past fresh home mark flat gain open-offer
+pub faithful-fresh : (l : Limits) → So (in-range l) → Faithful l (run (fresh l) (begins nothing-yet))
+unfolding now past fresh home mark flat gain open-offer nothing-yet
 faithful-fresh l r = record {
   good = fresh-good l r;
   agrees = record { homes = λ u. rw (empty-find u); marks = λ k u. rw (empty-find u) };
@@ -74,12 +74,12 @@ faithful-goes l ts r f s = goes-by (Faithful l) (faithful-turned l) ts r f s
 -- from a fresh domain
 pub faithful-run : (l : Limits) (ts : List Turn) → So (in-range l) → So (all (λ t. formed (t .0)) ts) → Faithful l (from-fresh l ts)
 unfolding from-fresh
-faithful-run l ts i f = faithful-goes l ts (run (fresh l) []) f (faithful-fresh l i)
+faithful-run l ts i f = faithful-goes l ts (run (fresh l) (begins nothing-yet)) f (faithful-fresh l i)
 
--- the four claims, of every run of formed events from a fresh domain
-pub demand : demand-3
+-- the four claims, of every faithful run
+pub claimed : (l : Limits) (r : Run) → Faithful l r → Claims r (l .tokens)
 unfolding step step-with answers act take-token share-token reading same code
-demand l ts i f = (
+claimed l r s = (
   holders-same h d g a,
   holder-alone h d g a,
   (tokens-counted h d g a, omega (arith, tokens-counted h d g a, g .tokens-are .counted, ap (λ (x : Limits). x .tokens) (s .limits))),
@@ -92,13 +92,10 @@ demand l ts i f = (
 )
   where
     d : Domain
-    d = now (from-fresh l ts)
+    d = now r
 
     h : History
-    h = past (from-fresh l ts)
-
-    s : Faithful l (from-fresh l ts)
-    s = faithful-run l ts i f
+    h = past r
 
     g : Sound d
     g = good-sound d (s .good)
@@ -109,3 +106,7 @@ demand l ts i f = (
     -- the limit is still that of the start
     first-limit : (k : ℕ) → (not (busy h k) && leb (d .limits .tokens) (count h)) ≡ (not (busy h k) && leb (l .tokens) (count h))
     first-limit k = ap (λ (x : Limits). not (busy h k) && leb (x .tokens) (count h)) (s .limits)
+
+-- of every run of formed events from a fresh domain
+pub demand : demand-3
+demand l ts i f = claimed l (from-fresh l ts) (faithful-run l ts i f)

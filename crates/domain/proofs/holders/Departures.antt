@@ -1,32 +1,31 @@
 -- DUrq, DPum, RJum and loss: those who leave, for history, are those whose places are swept. Assumes nothing.
 use mathlib.Core.Path.{_≡_, refl, sym, ap, _∙_}
 use mathlib.Core.Bool.{Bool, true, false, not, _&&_, true≢false, and-false, and-true, or-false}
-use mathlib.Core.List.{List, [], _∷_}
+use mathlib.Core.List.{List, []}
 use mathlib.Core.Option.{Option, none, some}
 use Prim.Native.Nat.{ℕ, _<_}
 use native.Mathlib.Omega.{arith}
 use lib.Dec.{eqb}
 use borrow.Author.Tests.{ne-eqb}
 use Rattle.places.specs.Places.{Place, At, Nowhere, find, inOrder}
-use Rattle.places.specs.Sets.{if_then_else_, has, minus, meet, with, seats, links, without, all, any, null, member, once}
-use Rattle.messages.specs.Named.{DUrq, DUin, CDin, TVcf, no-such-user}
-use Rattle.records.specs.Records.{Sent, to, tell}
+use Rattle.places.specs.Sets.{if_then_else_, has, minus, seats, links, without, all, any, null, member, once}
+use Rattle.messages.specs.Named.{DUrq}
+use Rattle.records.specs.Records.{Sent}
 use Rattle.places.proofs.Digits.{has-those, eqb-sym}
 use Rattle.places.proofs.Rows.{find-holds}
 use Rattle.places.proofs.Members.{member-at, member-once}
 use Rattle.places.proofs.Order.{in-order-has}
-use Rattle.domain.specs.Tables.{Users, Domain, name, link, state, sweep-tokens, remove-users, hosts}
-use Rattle.domain.specs.declared.channel.Kind.{Kind}
-use Rattle.domain.specs.declared.channel.Kind.the-variants.{Static, User, Private, Assigned}
+use Rattle.domain.specs.Tables.{Domain, link, state, sweep-tokens, remove-users}
 use Rattle.domain.specs.declared.token.Holding.{Holding}
 use Rattle.domain.specs.declared.token.Holding.the-variants.{Free, Grabbed, Inhibited, Giving, Given}
-use Rattle.domain.specs.Tokens.{lose, lose-offer, status}
+use Rattle.domain.specs.Tokens.{lose, lose-offer}
 use Rattle.domain.specs.Events.{Event, hears, reads}
 use Rattle.domain.specs.Effects.{ignored}
-use Rattle.domain.specs.Leaving.{ended, returned, farewell, leave, those-on, detach, close}
+use Rattle.domain.specs.Leaving.{farewell, leave, those-on, detach, close}
 use Rattle.domain.specs.Channels.{places}
-use Rattle.domain.specs.History.{Entry, History, Word, detaches, closes, accepts, declines, code, same, is, sign, reading, asks, link-of, said, closed, leaves}
+use Rattle.domain.specs.History.{Entry, History, _▹_, Word, detaches, closes, accepts, declines, code, same, is, sign, reading, asks, link-of, said, closed, leaves}
 use Rattle.domain.specs.History.{home, nothing, by-grab}
+use Rattle.domain.proofs.Sending.{farewell-all}
 use Rattle.domain.proofs.invariant.Sound.{Sound}
 use Rattle.domain.proofs.invariant.Leavers.{gone-is}
 use Rattle.domain.proofs.invariant.Held.{lose-held}
@@ -34,43 +33,12 @@ use Rattle.domain.proofs.holders.Known.{state-swept, unless, find-left,
 use Rattle.domain.proofs.holders.Heard.{Mark, mark-mute, leaves-none, mute, mutes, arrives-none}
 use Rattle.domain.proofs.holders.Agrees.{Agrees, fine, seen, nobody, stand}
 use Rattle.domain.proofs.holders.Requests.{stand-inhibited}
-use Rattle.domain.proofs.holders.Silent.{all-append, all-each, tell-mute}
 
 -- ---- the records are not read
 
-users-mute : (live reason : ℕ) (ids : List ℕ) (b : Bool) → all mute (if b then [] else tell live (DUin reason ids)) ≡ true
-unfolding all mutes reading same code
-users-mute live reason ids true = refl
-users-mute live reason ids false = tell-mute live (DUin reason ids) refl
-
-ended-mute : (us : Users) (gone live c : ℕ) (k : Kind) → all mute (ended us gone live c k) ≡ true
-unfolding ended all mutes reading same code
-ended-mute us gone live c Static = refl
-ended-mute us gone live c User = refl
-ended-mute us gone live c (Private g adm) = go (has gone g) (meet links (hosts us (with seats adm g)) live)
-  where
-    go : (b : Bool) (m : ℕ) → all mute (if b then tell m (CDin c) else []) ≡ true
-    go true m = tell-mute m (CDin c) refl
-    go false m = refl
-ended-mute us gone live c Assigned = refl
-
-returned-mute : (us : Users) (gone k : ℕ) (h : Holding) → all mute (returned us gone k h) ≡ true
-unfolding returned all mute mutes reading same code
-returned-mute us gone k Free = refl
-returned-mute us gone k (Grabbed g) = refl
-returned-mute us gone k (Inhibited is) = refl
-returned-mute us gone k (Giving g r) = go (has gone r && not (has gone g)) (link us g) (name us g) (status (lose gone (Giving g r)) g)
-  where
-    go : (b : Bool) (q u s : ℕ) → all mute (if b then to q (TVcf no-such-user u k s) ∷ [] else []) ≡ true
-    go true q u s = refl
-    go false q u s = refl
-returned-mute us gone k (Given r) = refl
-
 farewell-mute : (d : Domain) (gone live reason : ℕ) (ids : List ℕ) → all mute (farewell d gone live reason ids) ≡ true
-unfolding farewell
-farewell-mute d gone live reason ids =
-    all-append mute _ _ (all-append mute _ _ (users-mute live reason ids (null ids)) (all-each mute _ (λ c. ended-mute (d .users) gone live c _) (inOrder (d .channels .ids))))
-    (all-each mute _ (λ k. returned-mute (d .users) gone k _) (inOrder (d .tokens .ids)))
+unfolding mute mutes reading same code
+farewell-mute = farewell-all mute (λ p n ids. refl) (λ p c. refl) (λ p u k s. refl)
 
 -- ---- a token keeps those who stay
 
@@ -115,7 +83,7 @@ module _ (h : History) (d : Domain) (g : Sound d) (a : Agrees h (d .users) (d .t
   -- where history hears that exactly the users at these places leave, the relation holds after they are swept
   pub left-agrees : ((w : Word) → same w detaches ≡ false → (u k : ℕ) → said e (home h u) w u k ≡ false)
       → ((u : ℕ) → leaves e (home h u) u ≡ seen (find (d .users .ids) u) false (has gone))
-      → Agrees (e ∷ h) (remove-users (d .users) gone) (sweep-tokens (lose gone) (d .tokens))
+      → Agrees (e ▹ h) (remove-users (d .users) gone) (sweep-tokens (lose gone) (d .tokens))
   unfolding same code home
   left-agrees unsaid away = record {
     homes = λ u. arrives-none rs dull u (if leaves e (home h u) u then none else home h u)

@@ -1,21 +1,17 @@
 -- Every event keeps the relation between history and tables. Assumes nothing.
 use mathlib.Core.Path.{_≡_, refl}
-use mathlib.Core.Bool.{Bool, true, false, not, _&&_, _||_, So}
-use mathlib.Core.List.{List, [], _∷_}
+use mathlib.Core.Bool.{Bool, true, false, not, _||_, So}
+use mathlib.Core.List.{List, []}
 use Prim.Native.Nat.{ℕ, _<_}
 use native.Mathlib.Omega.{arith}
-use lib.Dec.{eqb, ltb}
-use lib.ListN.{length, getD, take}
-use borrow.Author.Tests.{not-true}
+use lib.Dec.{ltb}
+use lib.ListN.{length, getD}
 use Rattle.places.specs.Sets.{if_then_else_, has, with, all, links}
-use Rattle.places.specs.Places.{find, found}
 use Rattle.messages.specs.Named.{Message, EDrq, DPum, RJum, AUrq, AUcf, DUrq, DUin, CJrq, CJcf, CLrq, CCrq, CCcf, CDrq, CDin, CArq, CAin, CErq, CEin}
 use Rattle.messages.specs.Named.{TGrq, TGcf, TIrq, TIcf, TVrq, TVin, TVrs, TVcf, TPrq, TPin, TRrq, TRcf, TTrq, TTcf, formed as formed-message}
 use Rattle.messages.proofs.NamedLaws.{ranges}
-use Rattle.records.specs.Records.{to, records}
-use Rattle.places.proofs.Bools.{and-parts}
-use Rattle.places.proofs.Rows.{not-there}
-use Rattle.domain.specs.Tables.{Domain, state, hosts, put-links, put-tokens, between}
+use Rattle.records.specs.Records.{records}
+use Rattle.domain.specs.Tables.{Domain, state, hosts, put-links, put-tokens, Free-id}
 use Rattle.domain.specs.Events.{channels-full, Event, opens, loses, hears, reads, refuses, act, ends, sends, stays, answers, complaint, step-with}
 use Rattle.domain.specs.Tokens.{party}
 use Rattle.domain.specs.Effects.{within}
@@ -24,7 +20,8 @@ use Rattle.domain.specs.Leaving.{close}
 use Rattle.domain.specs.Good.{Good}
 use Rattle.domain.specs.History.{History, code, same, reading, asks, link-of}
 use Rattle.domain.specs.Claims.{formed}
-use Rattle.domain.proofs.invariant.Sound.{Sound, between-is}
+use Rattle.domain.proofs.Sending.{complaint-all}
+use Rattle.domain.proofs.invariant.Sound.{Sound, free-parts}
 use Rattle.domain.proofs.invariant.GoodIsSound.{good-sound}
 use Rattle.domain.proofs.holders.Heard.{mute, mutes, idle-unread}
 use Rattle.domain.proofs.holders.Agrees.{Agrees, Went, fine, quiet, stay, calm, ends-fine, from-fine}
@@ -71,13 +68,8 @@ module _ (h : History) (d : Domain) (g : Sound d) (a : Agrees h (d .users) (d .t
   act-fine p (TTcf u k s) f = tt
 
   complaint-mute : (n p : ℕ) (octets : List ℕ) → all mute (complaint n p octets) ≡ true
-  unfolding complaint all mute reading mutes same code
-  complaint-mute n p octets = go (eqb n 5) (eqb n 6)
-    where
-      go : (b c : Bool) → all mute (if b then to p (RJum 4 (take 16 octets)) ∷ [] else if c then to p (RJum 2 (take 16 octets)) ∷ [] else []) ≡ true
-      go true c = refl
-      go false true = refl
-      go false false = refl
+  unfolding mute reading mutes same code
+  complaint-mute = complaint-all mute (λ p n octets. refl)
 
   follows : (e : Event) (room : ℕ) → formed e ≡ true → Went h d e (step-with new d e room)
   unfolding step-with answers formed sends all asks link-of
@@ -106,8 +98,7 @@ module _ (h : History) (d : Domain) (g : Sound d) (a : Agrees h (d .users) (d .t
 
 -- for any maker's choice of a new id
 pub agrees-step : (h : History) (d : Domain) → Good d → Agrees h (d .users) (d .tokens) → (new : ℕ)
-    → So (between 1001 65535 new && not (found (find (d .channels .ids) new))) → (e : Event) (room : ℕ) → So (formed e) → Went h d e (step-with new d e room)
+    → Free-id d new → (e : Event) (room : ℕ) → So (formed e) → Went h d e (step-with new d e room)
 agrees-step h d g a new free e room f =
-    let r = and-parts (between 1001 65535 new) (not (found (find (d .channels .ids) new))) free in
-    let z : 0 < new = omega (arith, between-is 1001 65535 new (r .0) .0) in
-    follows h d (good-sound d g) a new z (not-there (d .channels .ids) new (not-true _ (r .1)) z) e room f
+    let b = free-parts d new free in
+    follows h d (good-sound d g) a new (omega (arith, b .0)) (b .2) e room f

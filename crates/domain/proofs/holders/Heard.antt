@@ -9,7 +9,7 @@ use borrow.Author.Tests.{eqb-true}
 use Rattle.places.specs.Sets.{if_then_else_, any, all, member}
 use Rattle.records.specs.Records.{Sent, to}
 use Rattle.places.proofs.Bools.{and-parts}
-use Rattle.domain.specs.History.{Entry, History, Word, attaches, detaches, closes, grabs, inhibits, yields, offers, accepts, declines, full, other, code, unread}
+use Rattle.domain.specs.History.{Entry, History, _▹_, Word, attaches, detaches, closes, grabs, inhibits, yields, offers, accepts, declines, full, other, code, unread}
 use Rattle.domain.specs.History.{reading, asks, link-of, same, is, told, said, closed, leaves, arrives, home, open-offer, gain, Gain, nothing, by-grab, by-inhibit}
 use Rattle.domain.specs.History.{by-offer}
 
@@ -47,11 +47,11 @@ flat-gain false false false false g = refl
 
 -- the mark after an entry, from the mark before it
 pub mark-step : (e : Entry) (h : History) (k u : ℕ)
-    → mark (e ∷ h) k u ≡ heard (told e grabs u k) (told e inhibits u k) (said e (home h u) accepts u k) (said e (home h u) declines u k)
+    → mark (e ▹ h) k u ≡ heard (told e grabs u k) (told e inhibits u k) (said e (home h u) accepts u k) (said e (home h u) declines u k)
     (told e yields u k) (told e offers u k) (leaves e (home h u) u) (mark h k u)
 unfolding mark gain open-offer
 mark-step e h k u =
-    ap (λ (g : Gain). (g, open-offer (e ∷ h) k u))
+    ap (λ (g : Gain). (g, open-offer (e ▹ h) k u))
     (flat-gain (told e grabs u k) (told e inhibits u k) (said e (home h u) accepts u k && open-offer h k u) (told e yields u k || leaves e (home h u) u) (gain h k u))
 
 -- ---- records of which history reads nothing
@@ -96,7 +96,7 @@ arrives-none (to p m ∷ rs) a u at =
 
 -- the mark after an entry with such records
 pub mark-mute : (e : Entry) (h : History) → all mute (e .sent) ≡ true → (k u : ℕ)
-    → mark (e ∷ h) k u ≡ heard false false (said e (home h u) accepts u k) (said e (home h u) declines u k) false false (leaves e (home h u) u) (mark h k u)
+    → mark (e ▹ h) k u ≡ heard false false (said e (home h u) accepts u k) (said e (home h u) declines u k) false false (leaves e (home h u) u) (mark h k u)
 unfolding told
 mark-mute e h a k u = mark-step e h k u
     ∙ rw (
@@ -148,10 +148,10 @@ module _ (e : Entry) (q : idle e ≡ true) where
 
   module _ (h : History) (a : all mute (e .sent) ≡ true) where
     -- with such records too, nothing changes
-    pub home-silent : (u : ℕ) → home (e ∷ h) u ≡ home h u
+    pub home-silent : (u : ℕ) → home (e ▹ h) u ≡ home h u
     unfolding home
     home-silent u = rw (leaves-idle (home h u) u) (arrives-none (e .sent) a u (home h u))
 
-    pub mark-silent : (k u : ℕ) → mark (e ∷ h) k u ≡ mark h k u
+    pub mark-silent : (k u : ℕ) → mark (e ▹ h) k u ≡ mark h k u
     unfolding same code
     mark-silent k u = mark-mute e h a k u ∙ rw (said-idle (home h u) accepts u k refl, said-idle (home h u) declines u k refl, leaves-idle (home h u) u)

@@ -24,7 +24,7 @@ use Rattle.domain.specs.Events.{users-full, channels-full, Event, hears,
 use Rattle.domain.specs.Effects.{Effect, done, within}
 use Rattle.domain.specs.Cells.{channel-of}
 use Rattle.domain.specs.Channels.{attach}
-use Rattle.domain.specs.History.{Entry, History, attaches, grabs, inhibits, yields, offers, accepts, declines, code, same, is, sign, reading, asks, arrives, home}
+use Rattle.domain.specs.History.{Entry, History, _▹_, attaches, grabs, inhibits, yields, offers, accepts, declines, code, same, is, sign, reading, asks, arrives, home}
 use Rattle.domain.proofs.invariant.Sound.{Seated, Held, Sound, limits-le}
 use Rattle.domain.proofs.invariant.Held.{state-held}
 use Rattle.domain.proofs.holders.Heard.{mark, mark-step, idle, idle-unread, said-idle, leaves-idle, mute, mutes}
@@ -68,11 +68,11 @@ module _ (h : History) (d : Domain) (g : Sound d) (a : Agrees h (d .users) (d .t
   unfolding reading
   means = refl
 
-  home-new : (u : ℕ) → home (e ∷ h) u ≡ (if eqb u new then some p else home h u)
+  home-new : (u : ℕ) → home (e ▹ h) u ≡ (if eqb u new then some p else home h u)
   unfolding home arrives is member any same code
   home-new u = rw (leaves-idle e quiet (home h u) u, means, or-false (eqb u new), and-true (eqb u new))
 
-  mark-new : (k u : ℕ) → mark (e ∷ h) k u ≡ mark h k u
+  mark-new : (k u : ℕ) → mark (e ▹ h) k u ≡ mark h k u
   unfolding same code
   mark-new k u = mark-step e h k u
       ∙ rw (
@@ -106,7 +106,7 @@ module _ (h : History) (d : Domain) (g : Sound d) (a : Agrees h (d .users) (d .t
     unfolding link add-user store spare
     there u j q = rw free (getD-set-other (us .at) s j p 16 (λ e. omega (arith, find-holds (us .ids) u j q .2, find-holds (us .ids) u j q .0, ap (λ (i : ℕ). getD (us .ids) i 0) e, first-holds (us .ids) 0 s free .0)))
 
-    new-agrees : Agrees (e ∷ h) (add-user us new p) (d .tokens)
+    new-agrees : Agrees (e ▹ h) (add-user us new p) (d .tokens)
     unfolding spare
     new-agrees = record {
       homes = λ u. home-new u ∙ rw (placed u) (house u (eqb u new) (find (us .ids) u) refl);

@@ -19,7 +19,7 @@ use Rattle.domain.specs.Tokens.{grabbed-by, offered-to, answered, status
 use Rattle.domain.specs.Events.{Event, hears, reads}
 use Rattle.domain.specs.Effects.{Effect, ignored, done, within}
 use Rattle.domain.specs.Passing.{offer, answer, informed}
-use Rattle.domain.specs.History.{Entry, History, Word, attaches, yields, offers, accepts, declines, other, code, same, is, reading, asks, link-of, told, said}
+use Rattle.domain.specs.History.{Entry, History, _▹_, Word, attaches, yields, offers, accepts, declines, other, code, same, is, reading, asks, link-of, told, said}
 use Rattle.domain.specs.History.{closed, leaves, arrives, home, nothing, by-grab}
 use Rattle.domain.proofs.invariant.Sound.{Held, Sound}
 use Rattle.domain.proofs.invariant.Held.{answered-held, state-held}
@@ -149,7 +149,7 @@ module _ (h : History) (d : Domain) (g : Sound d) (a : Agrees h (d .users) (d .t
     -- the token comes from the state `was` to what the answer makes of it; a record may say sw of a user x at place c
     settles : (was : Holding) (rs : List Sent) (x c : ℕ) (sw : Word)
         → state (d .tokens) k ≡ was → is-free was ≡ false → find (d .users .ids) x ≡ At c
-        → ((u : ℕ) → leaves (answers p n r k rs) (home h u) u ≡ false → home (answers p n r k rs ∷ h) u ≡ home h u)
+        → ((u : ℕ) → leaves (answers p n r k rs) (home h u) u ≡ false → home (answers p n r k rs ▹ h) u ≡ home h u)
         → ((w : Word) → read-word w → (u j : ℕ) → told (answers p n r k rs) w u j ≡ (eqb j k && eqb u x && same w sw))
         → ((j : ℕ) → shifts sw (reply-word p n r k rs) (eqb c j) (eqb i j) (stand was j) ≡ stand (answered (eqb n successful) was i) j)
         → fine h d ev (done (put-tokens d (set-token (d .tokens) k (answered (eqb n successful) was i))) rs)

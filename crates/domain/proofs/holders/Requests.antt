@@ -19,7 +19,7 @@ use Rattle.domain.specs.Events.{tokens-full, Event, hears, reads}
 use Rattle.domain.specs.Tokens.{Turned, fails, turns, grab, inhibit, release, inhibited, status}
 use Rattle.domain.specs.Effects.{done, from, within}
 use Rattle.domain.specs.Passing.{turn, take-token, share-token, drop-token}
-use Rattle.domain.specs.History.{Entry, History, Word, attaches, grabs, inhibits, yields, full, other, code, same, is, sign, unread, reading, asks, told, said}
+use Rattle.domain.specs.History.{Entry, History, _▹_, Word, attaches, grabs, inhibits, yields, full, other, code, same, is, sign, unread, reading, asks, told, said}
 use Rattle.domain.specs.History.{leaves, arrives, home, if-done, if-told, Gain, nothing, by-grab, by-inhibit}
 use Rattle.domain.proofs.invariant.Sound.{Seated, Sound}
 use Rattle.domain.proofs.invariant.Held.{Right, grab-right, inhibit-right, release-right, state-held}
@@ -130,7 +130,7 @@ module _ (ev : Event) (p : ℕ) (m : Message) (w : Word) (x k₀ : ℕ) (means :
   unfolding told any is member
   told-one v u k = rw means (or-false (eqb k k₀ && (eqb u x || false) && same v w) ∙ ap (λ (b : Bool). eqb k k₀ && b && same v w) (or-false (eqb u x)))
 
-  pub home-one : (h : History) (u : ℕ) → leaves one (home h u) u ≡ false → same attaches w ≡ false → home (one ∷ h) u ≡ home h u
+  pub home-one : (h : History) (u : ℕ) → leaves one (home h u) u ≡ false → same attaches w ≡ false → home (one ▹ h) u ≡ home h u
   unfolding home arrives is
   home-one h u l n = rw (l, means, n) (ap (λ (b : Bool). if b then some p else home h u) (and-false (eqb 0 k₀ && member u (x ∷ []))))
 

@@ -1,14 +1,14 @@
 -- The messages that history does not read: channels, polls and tests, and heights. Assumes nothing.
 use mathlib.Core.Path.{_≡_, refl}
-use mathlib.Core.Bool.{Bool, true, false, _&&_}
-use mathlib.Core.List.{List, [], _∷_, _++_, map}
+use mathlib.Core.Bool.{Bool, true, false}
+use mathlib.Core.List.{List, [], _∷_}
 use Prim.Native.Nat.{ℕ, zero, suc}
 use lib.Dec.{eqb, ltb}
-use Rattle.places.specs.Places.{Place, At, Nowhere, find, found}
-use Rattle.places.specs.Sets.{if_then_else_, all, null, each, keep, any, below, listed, links}
+use Rattle.places.specs.Places.{Place, At, Nowhere, find}
+use Rattle.places.specs.Sets.{if_then_else_, all, null, any}
 use Rattle.messages.specs.Named.{Message, CDin, CAin, CEin}
 use Rattle.records.specs.Records.{Sent, to, tell}
-use Rattle.domain.specs.Tables.{Users, Channels, Domain, put-channels, attached, channel}
+use Rattle.domain.specs.Tables.{Users, Channels, Domain, put-channels, channel}
 use Rattle.domain.specs.declared.channel.Kind.{Kind}
 use Rattle.domain.specs.declared.channel.Kind.the-variants.{Static, User, Private, Assigned}
 use Rattle.domain.specs.Events.{Event}
@@ -16,42 +16,18 @@ use Rattle.domain.specs.Cells.{kind}
 use Rattle.domain.specs.Effects.{Effect, ignored, done, within}
 use Rattle.domain.specs.Channels.{may, join-at, join-new, join, joined, leave-channels, convene, owned, manages, disband, own, attached-of, admit, admitted-of, expel}
 use Rattle.domain.specs.History.{History, unread, reading, asks, code, same}
+use Rattle.domain.proofs.Sending.{tell-all, own-all}
 use Rattle.domain.proofs.holders.Heard.{mute, mutes}
 use Rattle.domain.proofs.holders.Agrees.{Agrees, fine, calm, from-fine}
 
--- ---- lists of records
-
-module _ {A : Type 0} (f : A → Bool) where
-  pub all-append : (xs ys : List A) → all f xs ≡ true → all f ys ≡ true → all f (xs ++ ys) ≡ true
-  unfolding all
-  all-append [] ys a b = b
-  all-append (x ∷ xs) ys a b = go (f x) a (all-append xs ys)
-    where
-      go : (c : Bool) → (c && all f xs) ≡ true → (all f xs ≡ true → all f ys ≡ true → all f (xs ++ ys) ≡ true) → (c && all f (xs ++ ys)) ≡ true
-      go true q rec = rec q b
-      go false q rec = q
-
-  pub all-each : {B : Type 0} (g : B → List A) → ((b : B) → all f (g b) ≡ true) → (xs : List B) → all f (each g xs) ≡ true
-  unfolding all each
-  all-each g law [] = refl
-  all-each g law (x ∷ xs) = all-append (g x) (each g xs) (law x) (all-each g law xs)
-
 -- one message to several connections, and each connection's own ids
 pub tell-mute : (m : ℕ) (s : Message) → mutes (reading s .word) ≡ true → all mute (tell m s) ≡ true
-unfolding tell all mute
-tell-mute m s q = go (listed links m)
-  where
-    go : (xs : List ℕ) → all mute (map (λ q. to q s) xs) ≡ true
-    go [] = refl
-    go (x ∷ xs) = rw q (go xs)
+unfolding mute
+tell-mute m s q = tell-all mute m s (λ p. q)
 
 own-mute : (us : Users) (ids : List ℕ) (say : List ℕ → Message) → ((xs : List ℕ) → mutes (reading (say xs) .word) ≡ true) → all mute (own us ids say) ≡ true
-unfolding own all mute
-own-mute us ids say q = all-each mute _ (λ p. go p (keep (λ u. found (attached us p u)) ids) (null (keep (λ u. found (attached us p u)) ids))) (below links)
-  where
-    go : (p : ℕ) (xs : List ℕ) (b : Bool) → all mute (if b then [] else to p (say xs) ∷ []) ≡ true
-    go p xs true = refl
-    go p xs false = rw (q xs)
+unfolding mute
+own-mute us ids say q = own-all mute us ids say (λ p. q)
 
 -- ---- the messages
 

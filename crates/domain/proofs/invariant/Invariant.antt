@@ -1,24 +1,22 @@
 -- The invariant: every event keeps the tables good, for any free new id from 1001, for the one granted, and so in every run from a fresh domain.
 -- Assumes nothing.
 use mathlib.Core.Path.{_≡_}
-use mathlib.Core.Bool.{not, _&&_, So}
+use mathlib.Core.Bool.{So}
 use mathlib.Core.List.{List, [], _∷_}
 use Prim.Native.Nat.{ℕ, _≤_}
 use native.Mathlib.Omega.{arith}
 use lib.Dec.{ltb}
 use lib.ListN.{length}
-use borrow.Author.Tests.{not-true}
 use Rattle.places.specs.Sets.{all}
-use Rattle.places.specs.Places.{find, found}
 use Rattle.places.proofs.Bools.{and-parts, and-both}
-use Rattle.places.proofs.Rows.{not-there}
 use Rattle.places.proofs.Order.{above, keep-le, unused-free}
 use Rattle.domain.specs.declared.Limits.{Limits}
-use Rattle.domain.specs.Tables.{Domain, fresh, grant, between, in-range}
+use Rattle.domain.specs.Tables.{Domain, fresh, grant, in-range, Free-id}
 use Rattle.domain.specs.Events.{Event, step}
 use Rattle.domain.specs.Good.{Good}
+use Rattle.domain.specs.History.{nothing-yet, begins}
 use Rattle.domain.specs.Claims.{formed, good-step, Turn, Run, run, now, turned, goes, from-fresh}
-use Rattle.domain.proofs.invariant.Sound.{between-is, is-between}
+use Rattle.domain.proofs.invariant.Sound.{is-between, free-parts}
 use Rattle.domain.proofs.invariant.Kept.{sound-step}
 use Rattle.domain.proofs.invariant.Fresh.{fresh-good}
 use Rattle.domain.proofs.invariant.GoodIsSound.{good-sound, sound-good}
@@ -26,15 +24,14 @@ use Rattle.domain.proofs.invariant.GoodIsSound.{good-sound, sound-good}
 -- one event, for any free new id from 1001
 pub step-good : good-step
 step-good d new e room g f h =
-    let r = and-parts (between 1001 65535 new) (not (found (find (d .channels .ids) new))) h in
-    let b = between-is 1001 65535 new (r .0) in
-    sound-good _ (sound-step d (good-sound d g) new (b .0) (b .1) (not-there (d .channels .ids) new (not-true _ (r .1)) (omega (arith, b .0))) e room f)
+    let b = free-parts d new h in
+    sound-good _ (sound-step d (good-sound d g) new (b .0) (b .1) (b .2) e room f)
 
 -- ---- the id that is granted
 
 module _ (d : Domain) (g : Good d) where
   -- it is free, and from 1001
-  pub grant-free : So (between 1001 65535 (grant (d .channels)) && not (found (find (d .channels .ids) (grant (d .channels)))))
+  pub grant-free : Free-id d (grant (d .channels))
   unfolding grant above
   grant-free =
       let l : length (d .channels .ids) ≡ 128 = good-sound d g .channels-are .ids-size in
@@ -53,7 +50,12 @@ unfolding goes all
 goes-by P f [] r h p = p
 goes-by P f (t ∷ ts) r h p = let q = and-parts (formed (t .0)) (all (λ u. formed (u .0)) ts) h in goes-by P f ts (turned r t) (q .1) (f r t (q .0) p)
 
--- after any formed events, with any rooms, from any limits in range
+-- after any formed events, with any rooms, from any good tables
+pub good-goes : (ts : List Turn) (r : Run) → So (all (λ t. formed (t .0)) ts) → Good (now r) → Good (now (goes r ts))
+unfolding now turned
+good-goes ts r f g = goes-by (λ r. Good (now r)) (λ r t q g. good-next (now r) g (t .0) (t .1) q) ts r f g
+
+-- and so from any limits in range
 pub good-run : (l : Limits) (ts : List Turn) → So (in-range l) → So (all (λ t. formed (t .0)) ts) → Good (now (from-fresh l ts))
-unfolding from-fresh now turned
-good-run l ts h f = goes-by (λ r. Good (now r)) (λ r t q g. good-next (now r) g (t .0) (t .1) q) ts (run (fresh l) []) f (fresh-good l h)
+unfolding from-fresh now
+good-run l ts h f = good-goes ts (run (fresh l) (begins nothing-yet)) f (fresh-good l h)

@@ -33,7 +33,7 @@ use Rattle.domain.proofs.invariant.Held.{lose-held, token-row}
 use Rattle.domain.proofs.invariant.Rooms.{in-hosts, row-of, guests-changed, sweep-owned, sweep-table, marked-user, marked-row}
 
 -- a user's own channel, by the user's place
-abbrev own-fate : (gone : ℕ) (ch : Channel) (n : ℕ) → Place → Option Channel
+abbrev pub own-fate : (gone : ℕ) (ch : Channel) (n : ℕ) → Place → Option Channel
 own-fate gone ch n w = elim w [ At i ↦ if has gone i then none else marked ch n | Nowhere ↦ marked ch n ]
 
 -- it stays while the user does

@@ -1,13 +1,16 @@
 -- The tables' rules place by place: the same as `Good`, in the form in which they are kept. Assumes nothing.
 use mathlib.Core.Path.{_≡_, refl}
-use mathlib.Core.Bool.{true, false, _&&_, So, false≢true}
+use mathlib.Core.Bool.{true, false, not, _&&_, So, false≢true}
 use Prim.Native.Nat.{ℕ, _≤_, _<_, _^_}
+use native.Mathlib.Omega.{arith}
 use lib.Dec.{leb}
 use lib.ListN.{getD}
-use borrow.Author.Tests.{leb-true, le-leb}
+use borrow.Author.Tests.{leb-true, le-leb, not-true}
+use Rattle.places.specs.Places.{find, found}
 use Rattle.places.specs.Sets.{has, with, seats}
 use Rattle.places.proofs.Bools.{and-parts, and-both}
 use Rattle.places.proofs.Marks.{Marks}
+use Rattle.places.proofs.Rows.{not-there}
 use Rattle.places.proofs.Table.{Table}
 use Rattle.domain.specs.declared.Limits.{Limits}
 use Rattle.domain.specs.declared.channel.Kind.{Kind}
@@ -17,7 +20,7 @@ use Rattle.domain.specs.declared.token.Holding.{Holding}
 use Rattle.domain.specs.declared.token.Holding.the-variants.{Free, Grabbed, Inhibited, Giving, Given}
 use Rattle.domain.specs.declared.token.Token.{Token}
 use Rattle.domain.specs.Cells.{no-channel, no-token, kind, channel-of, hold, token-of}
-use Rattle.domain.specs.Tables.{Users, Channels, Domain, is-free, between, in-range}
+use Rattle.domain.specs.Tables.{Users, Channels, Domain, is-free, between, in-range, Free-id}
 use Rattle.domain.specs.Effects.{Effect, ignored, done}
 
 -- a user is at this place
@@ -107,6 +110,13 @@ between-is a b x h = let r = and-parts (leb a x) (leb x b) h in (leb-true a x (r
 pub is-between : (a b x : ℕ) → a ≤ x → x ≤ b → between a b x ≡ true
 unfolding between
 is-between a b x h k = and-both (le-leb a x h) (le-leb x b k)
+
+-- a free id is in range, and at no place of the channels
+pub free-parts : (d : Domain) (new : ℕ) → Free-id d new → (1001 ≤ new) × (new ≤ 65535) × ((j : ℕ) → getD (d .channels .ids) j 0 ≡ new → ⊥)
+free-parts d new free =
+    let r = and-parts (between 1001 65535 new) (not (found (find (d .channels .ids) new))) free in
+    let b = between-is 1001 65535 new (r .0) in
+    (b .0, b .1, not-there (d .channels .ids) new (not-true _ (r .1)) (omega (arith, b .0)))
 
 pub limits-le : (l : Limits) → So (in-range l) → (l .channels ≤ 128) × (l .users ≤ 64) × (l .tokens ≤ 64)
 unfolding in-range

@@ -1,0 +1,10 @@
+pub mod Notices
+pub mod Recalls
+pub mod Hushed
+pub mod Joining
+pub mod Naming
+pub mod Coming
+pub mod Leaving
+pub mod Following
+pub mod Asked
+pub mod Claimed

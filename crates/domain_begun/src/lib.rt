@@ -1,0 +1,1 @@
+// History that begins with an image. Definitions and theorems only.

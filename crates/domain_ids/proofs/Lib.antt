@@ -1,0 +1,4 @@
+pub mod Circle
+pub mod Dealing
+pub mod Refusals
+pub mod Spaced

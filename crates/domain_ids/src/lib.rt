@@ -1,0 +1,1 @@
+// New ids in a circle. Definitions and theorems only.

@@ -1,0 +1,2 @@
+pub mod same
+pub mod restored

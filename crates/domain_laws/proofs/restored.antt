@@ -1,0 +1,5 @@
+pub mod Listing
+pub mod Again
+pub mod Restored
+pub mod Ascending
+pub mod Taken

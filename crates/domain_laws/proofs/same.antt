@@ -1,0 +1,12 @@
+pub mod Orders
+pub mod Twins
+pub mod Holdings
+pub mod Requests
+pub mod Passing
+pub mod Kinds
+pub mod Leaving
+pub mod Joins
+pub mod Arrives
+pub mod Steps
+pub mod Runs
+pub mod Views
