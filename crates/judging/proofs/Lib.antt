@@ -1,0 +1,13 @@
+pub mod Forks
+pub mod Matching
+pub mod Forcing
+pub mod Judged
+pub mod Own
+pub mod Faults
+pub mod Named
+pub mod InRoom
+pub mod Demands
+pub mod Bridge
+pub mod Wishes
+pub mod Octets
+pub mod Worked

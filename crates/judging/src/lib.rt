@@ -1,0 +1,1 @@
+// Judging: another maker's bridge by its trace. Definitions and theorems only.
