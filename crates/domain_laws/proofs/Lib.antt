@@ -1,2 +1,3 @@
 pub mod same
+pub mod intwo
 pub mod restored

@@ -1,3 +1,4 @@
 pub mod Same
 pub mod View
 pub mod Built
+pub mod LeavingInTwo

@@ -18,7 +18,7 @@ use Rattle.messages.specs.Named.{Message, EDrq, DPum, RJum, AUrq, AUcf, DUrq, D
 use Rattle.messages.specs.Named.{TGrq, TGcf, TIrq, TIcf, TVrq, TVin, TVrs, TVcf, TPrq, TPin, TRrq, TRcf, TTrq, TTcf}
 use Rattle.messages.specs.Named.{fields, formed, heard}
 use Rattle.messages.proofs.CodecLaws.{taken}
-use Rattle.messages.proofs.NamedLaws.{ranges, read-named, heard-formed, refused-heard}
+use Rattle.messages.proofs.NamedLaws.{ranges, heard-read as heard-decoded, read-named, heard-formed, refused-heard}
 use Rattle.messages.proofs.Refusals.{refusal, refusals, number-read}
 use Rattle.reader.specs.Held.{padded, noMessage, decoded, headOf, hasIds, kept, Reads}
 use Rattle.reader.specs.declared.Decoded.{Decoded}
@@ -31,7 +31,7 @@ use Rattle.brief.specs.Listed.{in-list, Listed}
 use Rattle.domain.specs.Numbers.{replyNumber}
 use Rattle.domain.specs.Tables.{Domain}
 use Rattle.domain.specs.Effects.{Effect}
-use Rattle.domain.specs.Events.{refuses, act, answers, ends, sends, complaint}
+use Rattle.domain.specs.Events.{reads, refuses, act, answers, ends, sends, complaint}
 use Rattle.understanding.specs.declared.Understood.{Understood}
 use Rattle.understanding.specs.Understood.{number-in, read-as, understood}
 use Rattle.understanding.specs.Requests.{pass-request, token-request, brief-request, listed-request}
@@ -227,6 +227,13 @@ served-understood os x e s =
     taken (sized os) (ending (readMsg os)) 4 e λ size some.
     read-understood os (ltb-true 0 (length os) (both-left (ltb 0 (length os)) (leb (length os) 1024) size))
     (leb-true (length os) 1024 (both-right (ltb 0 (length os)) (leb (length os) 1024) size)) (served-known (number-in os) s) (served-way (entry (number-in os) .0) s) s
+
+-- a message that is heard and served is what is understood
+pub heard-understood : (os : List ℕ) (m : Message) → heard os ≡ ok m → is-served (fields m .number) ≡ true → understood os ≡ reads m
+unfolding read-as
+heard-understood os m h s =
+    let e : decode os ≡ ok (fields m) = heard-decoded os m h in
+    served-understood os (fields m) e (ap is-served (sym (number-is os (fields m) e)) ∙ s) ∙ ap (read-as os) h
 
 -- the octets ask for what a request does
 abbrev pub Asks : (os : List ℕ) (r : Message) → Type 0
