@@ -16,3 +16,4 @@ pub mod Answering
 pub mod OneOutcome
 pub mod Worked
 pub mod Restart
+pub mod Leaving

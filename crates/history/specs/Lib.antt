@@ -6,3 +6,4 @@ pub mod Hearers
 pub mod Always
 pub mod Example
 pub mod Restart
+pub mod Leaving
