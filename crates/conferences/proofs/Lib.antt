@@ -1,3 +1,4 @@
 pub mod Right
 pub mod Kept
 pub mod Hearers
+pub mod Rooms

@@ -6,3 +6,4 @@ pub mod Joins
 pub mod Limits
 pub mod Watched
 pub mod Hearers
+pub mod Rooms
