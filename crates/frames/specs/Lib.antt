@@ -1,2 +1,4 @@
 pub mod Frames
 pub mod Claims
+pub mod Good
+pub mod Fault

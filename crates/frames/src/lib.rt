@@ -2,8 +2,11 @@
 ghost use mathlib.Core.Path.{_≡_};
 ghost use Prim.Native.Nat.{_+_, _*_};
 ghost use Rattle.frames.specs.Frames.{meaning, front, frame, ofKind, kindNumber, sizeOf};
+ghost use Rattle.frames.specs.Good.{sizeIn, goodSize};
 ghost use lib.ListN.{length};
 ghost use lib.Dec.{leb};
+
+pub mod fault;
 
 // What a frame tells of its connection: it opens, it is lost, or a message came on it.
 pub enum Kind {
@@ -104,4 +107,27 @@ pub fn next_frame(s: &[u8]) -> Frame
         return Frame::Bad;
     }
     of_kind(s[3], s[4], size)
+}
+
+// How many octets a frame has; 0 where there is none.
+fn size_in(f: Frame) -> usize
+    ensures { λ r. ⌜ r ≡ sizeIn (meaning f) ⌝ }
+{
+    match f {
+        Frame::End => 0,
+        Frame::Good {
+            kind: _,
+            connection: _,
+            start: _,
+            size,
+        } => size,
+        Frame::Bad => 0,
+    }
+}
+
+// How many octets the good frame at the front of s has; 0 where no good frame begins there.
+pub fn good_size(s: &[u8]) -> usize
+    ensures { λ r. ⌜ r ≡ goodSize (now (s .entry)) ⌝ }
+{
+    size_in(next_frame(s))
 }
