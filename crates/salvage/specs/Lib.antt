@@ -1,0 +1,4 @@
+pub mod Spans
+pub mod Answer
+pub mod Steps
+pub mod Claims
