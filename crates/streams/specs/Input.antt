@@ -24,6 +24,11 @@ clip room h = cond (leb (h .from) (h .to) && leb (h .to) room) h (record { from 
 abbrev pub unread : List ℕ → Span → List ℕ
 unread s h = take (h .to - h .from) (drop (h .from) s)
 
+-- the octets that are not taken are the first n of the buffer
+pub record Starts (s : List ℕ) (h : Span) (s′ : List ℕ) (n : ℕ) : Type 0 where
+  pub inside : n ≤ length s′
+  pub kept : take n s′ ≡ unread s h
+
 -- the octets that were not taken stay in front; more come behind them, or the input has ended
 pub record Refills (s : List ℕ) (h : Span) (s′ : List ℕ) (h′ : Span) : Type 0 where
   pub within : Within (length s′) h′

@@ -5,7 +5,7 @@ ghost use Prim.Native.Nat.{_+_, _-_, _≤_};
 ghost use lib.Dec.{leb};
 ghost use lib.ListN.{length, take, drop};
 ghost use Rattle.frames.specs.Frames.{sizeOf};
-ghost use Rattle.streams.specs.Input.{nothing, Within, clip, unread, Refills, Ready};
+ghost use Rattle.streams.specs.Input.{nothing, Within, clip, unread, Starts, Refills, Ready};
 
 // Which octets of the buffer are read and not taken, and whether the input has ended.
 pub struct Span {
@@ -56,6 +56,16 @@ fn to_front(buf: &mut [u8], from: usize, to: usize) -> usize
         i += 1;
     }
     n
+}
+
+// Moves the octets that are not taken to the front, and answers how many they are.
+pub fn to_start(buf: &mut [u8], have: Span) -> usize
+    ensures { λ r. ⌜ Starts (now (buf .entry)) (clip (length (now (buf .entry))) have) (now (buf .exit)) r ⌝ }
+{
+    let span = clipped(buf.len(), have);
+    let from = span.from;
+    let to = span.to;
+    to_front(buf, from, to)
 }
 
 // Reads once behind the octets that are not taken. Where nothing comes, the input has ended.

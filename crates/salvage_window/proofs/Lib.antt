@@ -1,0 +1,5 @@
+pub mod Stays
+pub mod Turns
+pub mod Answers
+pub mod Sweeping
+pub mod Standing

@@ -1,0 +1,3 @@
+pub mod Windows
+pub mod Claims
+pub mod Stands
