@@ -19,6 +19,9 @@
 #define LADLESTORM_MESSAGE 1024 /* octets of a message */
 #define LADLESTORM_ROOM 17200
 
+/* The octets of a list that has room for every cut of a trace of n octets, however it is torn. */
+#define LADLESTORM_SALVAGE_LIST(n) (((size_t)(n) + 10) / 11 * 16)
+
 /* The replies. Replies 1 to 10 leave the domain as it was. */
 enum ladlestorm_reply {
     LADLESTORM_DONE = 0,
@@ -30,7 +33,7 @@ enum ladlestorm_reply {
     LADLESTORM_MAY_NOT_GO_UP = 6,   /* RJum, diagnostic 2, is sent to the connection */
     LADLESTORM_NOT_SERVED = 7,      /* MCrq, MTrq, SDrq, USrq */
     LADLESTORM_TOO_LONG = 8,        /* a list above 64 ids, a number above 4 octets, or a fragmented length */
-    LADLESTORM_NO_ROOM = 9,         /* the records to send exceed the room, which is untouched */
+    LADLESTORM_NO_ROOM = 9,         /* what is to be written exceeds its room, and no room is touched */
     LADLESTORM_BAD_LIMIT = 10       /* start: a limit is out of range */
 };
 
@@ -56,6 +59,13 @@ struct ladlestorm_answered {
     size_t sent;
 };
 
+/* How a trace is salvaged: the reply, and how many octets of the output and of the list are filled. */
+struct ladlestorm_salvaged {
+    uint32_t reply;
+    size_t kept;
+    size_t cuts;
+};
+
 _Static_assert(sizeof(struct ladlestorm_domain) == 2696, "the domain's size");
 _Static_assert(_Alignof(struct ladlestorm_domain) == 8, "the domain's alignment");
 _Static_assert(offsetof(struct ladlestorm_domain, links) == 4, "links");
@@ -71,6 +81,9 @@ _Static_assert(offsetof(struct ladlestorm_domain, modes) == 2120, "modes");
 _Static_assert(offsetof(struct ladlestorm_domain, values) == 2184, "values");
 _Static_assert(sizeof(struct ladlestorm_answered) == 16, "the answer's size");
 _Static_assert(offsetof(struct ladlestorm_answered, sent) == 8, "sent");
+_Static_assert(sizeof(struct ladlestorm_salvaged) == 24, "the size of salvaging's answer");
+_Static_assert(offsetof(struct ladlestorm_salvaged, kept) == 8, "kept");
+_Static_assert(offsetof(struct ladlestorm_salvaged, cuts) == 16, "cuts");
 
 /* Makes the domain: no connection open, nothing in use. The limits are 1 to 128 channels, 1 to 64 users, 1 to 64 tokens; one out of range
    gives LADLESTORM_BAD_LIMIT, and the struct stays as it is. Else LADLESTORM_DONE. */
@@ -96,5 +109,18 @@ uint32_t ladlestorm_audience(const struct ladlestorm_domain *domain, uint16_t c)
 size_t ladlestorm_users(const struct ladlestorm_domain *domain);
 size_t ladlestorm_channels(const struct ladlestorm_domain *domain);
 size_t ladlestorm_tokens(const struct ladlestorm_domain *domain);
+
+/* Salvages a torn trace; docs/TRACE.md has its frames and the rules for a good one. A good frame is kept. Where no good frame begins, octets are cut
+   out up to the next place where a good frame begins that is followed by another good frame or by the end; if there is none, up to the end.
+
+   LADLESTORM_DONE: the first `kept` octets of the output are the frames kept, in their order. The first `cuts` octets of the list are an entry of 16
+   octets for each span cut out, in order: where in the trace it starts, and its length, 8 octets each, big-endian. The octets behind them stay in both.
+   LADLESTORM_NO_ROOM exactly where the output or the list has too little room: `kept` and `cuts` are 0, and both are untouched. An output of
+   `trace_length` octets and a list of LADLESTORM_SALVAGE_LIST(trace_length) never meet it.
+
+   The kept and cut spans in their order are the trace; salvaging the output cuts nothing; nothing is cut exactly where the trace is good frames to its end.
+   No domain is needed. The time is linear in the trace's length, however it is damaged. The trace, the output and the list must not overlap. */
+struct ladlestorm_salvaged ladlestorm_salvage(
+    const uint8_t *trace, size_t trace_length, uint8_t *output, size_t output_length, uint8_t *list, size_t list_length);
 
 #endif

@@ -12,6 +12,8 @@ ghost use Rattle.understanding.specs.Understood.{understood};
 ghost use Rattle.bridge.specs.Held.{domain-in};
 use edge::Answered;
 
+pub mod traces;
+
 // The domain: its limits, the open connections, and the columns of the users, channels and tokens.
 #[repr(C)]
 pub struct Domain {
