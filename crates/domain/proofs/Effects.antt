@@ -7,10 +7,10 @@ use native.Mathlib.Omega.{arith}
 use borrow.Author.Tests.{lt-ltb, le-ltb}
 use lib.ListN.{length, drop}
 use lib.Seq.{length-sets}
-use Rattle.records.specs.Records.{Sent, records}
-use Rattle.records.specs.Out.{Puts}
-use Rattle.records.proofs.Laying.{put-fits}
-use Rattle.records.proofs.Telling.{records-none}
+use Rattle.out_records.specs.Records.{Sent, records}
+use Rattle.out_records.specs.Out.{Puts}
+use Rattle.out_records.proofs.Laying.{put-fits}
+use Rattle.out_records.proofs.Telling.{records-none}
 use Rattle.domain.specs.Effects.{Effect, ignored, done, Settled, settled, sends, settle}
 
 -- `k` is the place behind the records, as a run over a room of no octets tells it

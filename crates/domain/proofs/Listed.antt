@@ -4,11 +4,11 @@ use mathlib.Core.List.{List}
 use Prim.Native.Nat.{ℕ, _<_}
 use lib.Dec.{eqb}
 use borrow.Author.Tests.{ne-eqb}
-use Rattle.places.specs.Sets.{any, member, has}
-use Rattle.places.specs.Places.{Place, At, Nowhere, find}
-use Rattle.places.proofs.Below.{any-same}
-use Rattle.places.proofs.Digits.{has-those}
-use Rattle.places.proofs.Rows.{At≢Nowhere, same-place}
+use Rattle.cols_spec.specs.Sets.{any, member, has}
+use Rattle.cols_spec.specs.Places.{Place, At, Nowhere, find}
+use Rattle.cols_spec.proofs.Below.{any-same}
+use Rattle.cols_spec.proofs.Digits.{has-those}
+use Rattle.cols_spec.proofs.Rows.{At≢Nowhere, same-place}
 use Rattle.domain.specs.Tables.{Users}
 use Rattle.domain.specs.Channels.{stands, places}
 

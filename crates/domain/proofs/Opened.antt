@@ -1,12 +1,12 @@
 -- One name that opens every definition of the codec, the machine and what is said of it, but `busy` and `count`, which range over all ids: for what is proved by computing. Assumes nothing.
-use Rattle.octets.specs.Octets.{readLength, size, fewest, counted, readItem}
-use Rattle.octets.specs.Bits.{takeBits}
-use Rattle.messages.specs.Messages.{entry, row, may-go-up, is-served, is-covered}
-use Rattle.messages.specs.Codec.{takeField, octetsOfMsg, decode, encode}
-use Rattle.messages.specs.Named.{fields, named, formed, octets, heard}
-use Rattle.places.specs.Sets.{keep, any, all, null, each, upto, member, firsts, once, has, those-from, those, with, without, minus, meet, union, only, listed}
-use Rattle.places.specs.Places.{first, number, find, spare, found, seat, used, lesser, next, rising, inOrder, distinct, store, load, turns-to, becomes, sweep, every, unused}
-use Rattle.records.specs.Records.{tell, wire, framed, octets as octets-records, records}
+use Rattle.codec_octets.specs.Octets.{readLength, size, fewest, counted, readItem}
+use Rattle.codec_octets.specs.Bits.{takeBits}
+use Rattle.codec_table.specs.Messages.{entry, row, may-go-up, is-served, is-covered}
+use Rattle.codec_table.specs.Codec.{takeField, octetsOfMsg, decode, encode}
+use Rattle.codec_table.specs.Named.{fields, named, formed, octets, heard}
+use Rattle.cols_spec.specs.Sets.{keep, any, all, null, each, upto, member, firsts, once, has, those-from, those, with, without, minus, meet, union, only, listed}
+use Rattle.cols_spec.specs.Places.{first, number, find, spare, found, seat, used, lesser, next, rising, inOrder, distinct, store, load, turns-to, becomes, sweep, every, unused}
+use Rattle.out_records.specs.Records.{tell, wire, framed, octets as octets-records, records}
 use Rattle.domain.specs.Cells.{kind, channel-of, with-marks, with-guests, hold, token-of}
 use Rattle.domain.specs.Tables.{channel-cells, token-cells, name, link, attached, add-user, stays-on, remove-users, hosts, channel, add-channel, set-channel, end-channel, sweep-channels, members, lapses, marked, state, is-free, set-token, sweep-tokens, fresh, between, in-range, at-limit, grant}
 use Rattle.domain.specs.Tokens.{status, inhibited, grab, inhibit, release, grabbed-by, offered-to, answered, party, lose-offer, lose}

@@ -5,9 +5,9 @@ use mathlib.Core.List.{List, _++_}
 use Prim.Native.Nat.{ℕ}
 use lib.Dec.{ltb}
 use lib.ListN.{length, drop}
-use Rattle.places.specs.Sets.{if_then_else_}
-use Rattle.messages.specs.Named.{Message}
-use Rattle.records.specs.Records.{Sent, records}
+use Rattle.cols_spec.specs.Sets.{if_then_else_}
+use Rattle.codec_table.specs.Named.{Message}
+use Rattle.out_records.specs.Records.{Sent, records}
 use Rattle.domain.specs.declared.Limits.{Limits}
 use Rattle.domain.specs.Tables.{Users, Channels, Tokens, Domain, put-channels, put-tokens, put-both, grant}
 use Rattle.domain.specs.Effects.{Effect, ignored, done, within, Settled, settled, sends, settle}

@@ -6,10 +6,10 @@ use mathlib.Core.List.{List, [], _∷_, _++_, map}
 use Prim.Native.Nat.{ℕ}
 use lib.Dec.{eqb}
 use lib.ListN.{take}
-use Rattle.places.specs.Sets.{if_then_else_, all, null, each, keep, below, has, with, meet, listed, links, seats}
-use Rattle.places.specs.Places.{found, inOrder}
-use Rattle.messages.specs.Named.{Message, RJum, DUin, CDin, TVcf, no-such-user}
-use Rattle.records.specs.Records.{Sent, to, tell}
+use Rattle.cols_spec.specs.Sets.{if_then_else_, all, null, each, keep, below, has, with, meet, listed, links, seats}
+use Rattle.cols_spec.specs.Places.{found, inOrder}
+use Rattle.codec_table.specs.Named.{Message, RJum, DUin, CDin, TVcf, no-such-user}
+use Rattle.out_records.specs.Records.{Sent, to, tell}
 use Rattle.domain.specs.declared.channel.Kind.{Kind}
 use Rattle.domain.specs.declared.channel.Kind.the-variants.{Static, User, Private, Assigned}
 use Rattle.domain.specs.declared.token.Holding.{Holding}

@@ -8,8 +8,8 @@ use native.Mathlib.Omega.{arith}
 use borrow.Author.Tests.{lt-ltb, le-ltb}
 use lib.Dec.{eqb, ltb}
 use lib.ListN.{length, drop}
-use Rattle.places.specs.Sets.{if_then_else_, has, with, links}
-use Rattle.records.specs.Records.{Sent, records}
+use Rattle.cols_spec.specs.Sets.{if_then_else_, has, with, links}
+use Rattle.out_records.specs.Records.{Sent, records}
 use Rattle.domain.specs.Tables.{Domain, put-links, grant}
 use Rattle.domain.specs.Effects.{Effect, ignored, done, Settled, settled, sends, settle}
 use Rattle.domain.specs.Leaving.{close}

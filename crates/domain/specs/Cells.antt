@@ -7,7 +7,7 @@ use Rattle.domain.specs.declared.channel.Channel.{Channel}
 use Rattle.domain.specs.declared.token.Holding.{Holding}
 use Rattle.domain.specs.declared.token.Holding.the-variants.{Free, Grabbed, Inhibited, Giving, Given}
 use Rattle.domain.specs.declared.token.Token.{Token}
-use Rattle.places.specs.Sets.{if_then_else_}
+use Rattle.cols_spec.specs.Sets.{if_then_else_}
 
 -- what a free place holds
 abbrev pub no-channel : Channel

@@ -5,10 +5,10 @@ use mathlib.Core.Bool.{Bool, true, false, _&&_, _||_}
 use mathlib.Core.List.{List, [], _∷_}
 use mathlib.Core.Option.{Option, none, some}
 use lib.Dec.{eqb, ltb}
-use Rattle.places.specs.Sets.{if_then_else_, keep, any, null, each, below, member, once, has, those, with, without, minus, meet, union, only, links, seats}
-use Rattle.places.specs.Places.{Place, At, Nowhere, find, found, load}
-use Rattle.messages.specs.Named.{Message, AUcf, CJcf, CCcf, CDin, CAin, CEin, successful, no-such-channel, not-admitted, other-user-id, too-many-channels, too-many-users}
-use Rattle.records.specs.Records.{Sent, to, tell}
+use Rattle.cols_spec.specs.Sets.{if_then_else_, keep, any, null, each, below, member, once, has, those, with, without, minus, meet, union, only, links, seats}
+use Rattle.cols_spec.specs.Places.{Place, At, Nowhere, find, found, load}
+use Rattle.codec_table.specs.Named.{Message, AUcf, CJcf, CCcf, CDin, CAin, CEin, successful, no-such-channel, not-admitted, other-user-id, too-many-channels, too-many-users}
+use Rattle.out_records.specs.Records.{Sent, to, tell}
 use Rattle.domain.specs.declared.channel.Kind.{Kind}
 use Rattle.domain.specs.declared.channel.Kind.the-variants.{Static, User, Private, Assigned}
 use Rattle.domain.specs.declared.channel.Channel.{Channel}

@@ -5,9 +5,9 @@ use mathlib.Core.Bool.{Bool, true, false, not, _&&_, So}
 use mathlib.Core.List.{List, [], _∷_}
 use mathlib.Core.Option.{some}
 use lib.Dec.{eqb, leb}
-use Rattle.places.specs.Sets.{has, all}
-use Rattle.places.specs.Places.{At, Nowhere, find, used}
-use Rattle.messages.specs.Named.{Message, TGrq, TIrq, formed as formed-message}
+use Rattle.cols_spec.specs.Sets.{has, all}
+use Rattle.cols_spec.specs.Places.{At, Nowhere, find, used}
+use Rattle.codec_table.specs.Named.{Message, TGrq, TIrq, formed as formed-message}
 use Rattle.domain.specs.declared.Limits.{Limits}
 use Rattle.domain.specs.declared.token.Holding.{Holding}
 use Rattle.domain.specs.declared.token.Holding.the-variants.{Free, Grabbed, Inhibited, Giving, Given}

@@ -4,9 +4,9 @@ use mathlib.Core.Bool.{Bool}
 use mathlib.Core.List.{List, [], _∷_, _++_}
 use lib.Dec.{ltb}
 use lib.ListN.{length, drop}
-use Rattle.places.specs.Sets.{if_then_else_}
-use Rattle.places.specs.Places.{At, Nowhere}
-use Rattle.records.specs.Records.{Sent, records}
+use Rattle.cols_spec.specs.Sets.{if_then_else_}
+use Rattle.cols_spec.specs.Places.{At, Nowhere}
+use Rattle.out_records.specs.Records.{Sent, records}
 use Rattle.domain.specs.declared.answer.Answer.{Answer}
 use Rattle.domain.specs.Numbers.{replyNumber}
 use Rattle.domain.specs.Tables.{Users, attached}

@@ -4,10 +4,10 @@ use mathlib.Core.Bool.{Bool, true, false, not, _||_}
 use mathlib.Core.List.{List, [], _∷_}
 use lib.Dec.{eqb, ltb}
 use lib.ListN.{length, take}
-use Rattle.places.specs.Sets.{if_then_else_, has, with, links}
-use Rattle.messages.specs.Named.{Message, EDrq, DPum, RJum, AUrq, AUcf, DUrq, DUin, CJrq, CJcf, CLrq, CCrq, CCcf, CDrq, CDin, CArq, CAin, CErq, CEin}
-use Rattle.messages.specs.Named.{TGrq, TGcf, TIrq, TIcf, TVrq, TVin, TVrs, TVcf, TPrq, TPin, TRrq, TRcf, TTrq, TTcf, forbidden-PDU-upward, invalid-PER-encoding}
-use Rattle.records.specs.Records.{Sent, to, records}
+use Rattle.cols_spec.specs.Sets.{if_then_else_, has, with, links}
+use Rattle.codec_table.specs.Named.{Message, EDrq, DPum, RJum, AUrq, AUcf, DUrq, DUin, CJrq, CJcf, CLrq, CCrq, CCcf, CDrq, CDin, CArq, CAin, CErq, CEin}
+use Rattle.codec_table.specs.Named.{TGrq, TGcf, TIrq, TIcf, TVrq, TVin, TVrs, TVcf, TPrq, TPin, TRrq, TRcf, TTrq, TTcf, forbidden-PDU-upward, invalid-PER-encoding}
+use Rattle.out_records.specs.Records.{Sent, to, records}
 use Rattle.domain.specs.Tables.{Users, Channels, Domain, put-links, put-channels, put-tokens, put-both, at-limit, grant}
 use Rattle.domain.specs.Effects.{Effect, ignored, done, within}
 use Rattle.domain.specs.Channels.{attach, join, leave-channels, convene, disband, admit, expel}

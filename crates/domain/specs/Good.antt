@@ -4,8 +4,8 @@ use mathlib.Core.Bool.{Bool, true, false, not, _&&_, _||_, So}
 use mathlib.Core.List.{List, [], _∷_}
 use lib.Dec.{eqb, leb, ltb}
 use lib.ListN.{length}
-use Rattle.places.specs.Sets.{if_then_else_, all, below, has, with, only, meet, links, seats}
-use Rattle.places.specs.Places.{At, Nowhere, find, used, distinct, every, load}
+use Rattle.cols_spec.specs.Sets.{if_then_else_, all, below, has, with, only, meet, links, seats}
+use Rattle.cols_spec.specs.Places.{At, Nowhere, find, used, distinct, every, load}
 use Rattle.domain.specs.declared.Limits.{Limits}
 use Rattle.domain.specs.declared.channel.Kind.{Kind}
 use Rattle.domain.specs.declared.channel.Kind.the-variants.{Static, User, Private, Assigned}

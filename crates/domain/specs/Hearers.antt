@@ -6,11 +6,11 @@ use mathlib.Core.Bool.{Bool, true, false, _&&_, _||_, So}
 use mathlib.Core.List.{List, [], _∷_}
 use mathlib.Core.Option.{Option, none, some}
 use lib.Dec.{eqb}
-use Rattle.places.specs.Sets.{if_then_else_, all, has, member}
-use Rattle.places.specs.Places.{At, find, found, load}
-use Rattle.messages.specs.Named.{Message, EDrq, DPum, RJum, AUrq, AUcf, DUrq, DUin, CJrq, CJcf, CLrq, CCrq, CCcf, CDrq, CDin, CArq, CAin, CErq, CEin}
-use Rattle.messages.specs.Named.{TGrq, TGcf, TIrq, TIcf, TVrq, TVin, TVrs, TVcf, TPrq, TPin, TRrq, TRcf, TTrq, TTcf, successful}
-use Rattle.records.specs.Records.{Sent, to}
+use Rattle.cols_spec.specs.Sets.{if_then_else_, all, has, member}
+use Rattle.cols_spec.specs.Places.{At, find, found, load}
+use Rattle.codec_table.specs.Named.{Message, EDrq, DPum, RJum, AUrq, AUcf, DUrq, DUin, CJrq, CJcf, CLrq, CCrq, CCcf, CDrq, CDin, CArq, CAin, CErq, CEin}
+use Rattle.codec_table.specs.Named.{TGrq, TGcf, TIrq, TIcf, TVrq, TVin, TVrs, TVcf, TPrq, TPin, TRrq, TRcf, TTrq, TTcf, successful}
+use Rattle.out_records.specs.Records.{Sent, to}
 use Rattle.domain.specs.declared.Limits.{Limits}
 use Rattle.domain.specs.declared.channel.Kind.{Kind}
 use Rattle.domain.specs.declared.channel.Kind.the-variants.{Static, User, Private, Assigned}

@@ -3,10 +3,10 @@ use Prim.Native.Nat.{ℕ}
 use mathlib.Core.Bool.{Bool, true, false, not, _&&_}
 use mathlib.Core.List.{List, [], _∷_, _++_}
 use mathlib.Core.Option.{Option, none, some}
-use Rattle.places.specs.Sets.{if_then_else_, keep, null, each, once, has, without, with, minus, meet, links, seats}
-use Rattle.places.specs.Places.{Place, At, Nowhere, find, found, inOrder, load}
-use Rattle.messages.specs.Named.{DUin, CDin, TVcf, no-such-user, domain-disconnected}
-use Rattle.records.specs.Records.{Sent, to, tell}
+use Rattle.cols_spec.specs.Sets.{if_then_else_, keep, null, each, once, has, without, with, minus, meet, links, seats}
+use Rattle.cols_spec.specs.Places.{Place, At, Nowhere, find, found, inOrder, load}
+use Rattle.codec_table.specs.Named.{DUin, CDin, TVcf, no-such-user, domain-disconnected}
+use Rattle.out_records.specs.Records.{Sent, to, tell}
 use Rattle.domain.specs.declared.channel.Kind.{Kind}
 use Rattle.domain.specs.declared.channel.Kind.the-variants.{Static, User, Private, Assigned}
 use Rattle.domain.specs.declared.channel.Channel.{Channel}

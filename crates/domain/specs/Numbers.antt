@@ -1,8 +1,8 @@
 -- The number that document 01 or T.125 gives each name.
 use Prim.Native.Nat.{ℕ}
-use Rattle.messages.specs.Named.{successful, no-such-channel, no-such-user, not-admitted, other-user-id, token-not-available, token-not-possessed, too-many-channels, too-many-tokens, too-many-users}
-use Rattle.messages.specs.Named.{not-in-use, self-grabbed, other-grabbed, self-inhibited, other-inhibited, self-recipient, self-giving, other-giving}
-use Rattle.messages.specs.Named.{domain-disconnected, provider-initiated, token-purged, user-requested, channel-purged, forbidden-PDU-upward, invalid-PER-encoding}
+use Rattle.codec_table.specs.Named.{successful, no-such-channel, no-such-user, not-admitted, other-user-id, token-not-available, token-not-possessed, too-many-channels, too-many-tokens, too-many-users}
+use Rattle.codec_table.specs.Named.{not-in-use, self-grabbed, other-grabbed, self-inhibited, other-inhibited, self-recipient, self-giving, other-giving}
+use Rattle.codec_table.specs.Named.{domain-disconnected, provider-initiated, token-purged, user-requested, channel-purged, forbidden-PDU-upward, invalid-PER-encoding}
 use Rattle.domain.specs.declared.numbers.Reply.{Reply}
 use Rattle.domain.specs.declared.numbers.Reply.the-variants.{Done, Ignored, NotOpen, OpenAlready, WrongLength, BadEncoding, MayNotGoUp, NotServed, TooLong, NoRoom, BadLimit, BadFrame}
 use Rattle.domain.specs.declared.numbers.Result.{Result}

@@ -2,9 +2,9 @@
 use Prim.Native.Nat.{ℕ}
 use mathlib.Core.List.{List, _++_}
 use lib.ListN.{length, drop}
-use Rattle.places.specs.Sets.{if_then_else_, listed, links}
-use Rattle.places.specs.Places.{find, load}
-use Rattle.records.specs.Records.{records}
+use Rattle.cols_spec.specs.Sets.{if_then_else_, listed, links}
+use Rattle.cols_spec.specs.Places.{find, load}
+use Rattle.out_records.specs.Records.{records}
 use Rattle.domain.specs.declared.Limits.{Limits}
 use Rattle.domain.specs.Cells.{no-channel}
 use Rattle.domain.specs.Tables.{Channels, Domain, fresh, in-range}

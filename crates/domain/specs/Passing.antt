@@ -3,10 +3,10 @@ use Prim.Native.Nat.{ℕ}
 use mathlib.Core.Bool.{Bool}
 use mathlib.Core.List.{List, [], _∷_}
 use lib.Dec.{eqb}
-use Rattle.places.specs.Sets.{if_then_else_}
-use Rattle.places.specs.Places.{At, Nowhere, find}
-use Rattle.messages.specs.Named.{Message, TGcf, TIcf, TVin, TVcf, TPin, TRcf, TTcf, successful, no-such-user, token-not-possessed}
-use Rattle.records.specs.Records.{Sent, to, tell}
+use Rattle.cols_spec.specs.Sets.{if_then_else_}
+use Rattle.cols_spec.specs.Places.{At, Nowhere, find}
+use Rattle.codec_table.specs.Named.{Message, TGcf, TIcf, TVin, TVcf, TPin, TRcf, TTcf, successful, no-such-user, token-not-possessed}
+use Rattle.out_records.specs.Records.{Sent, to, tell}
 use Rattle.domain.specs.declared.token.Holding.{Holding}
 use Rattle.domain.specs.declared.token.Holding.the-variants.{Free, Grabbed, Inhibited, Giving, Given}
 use Rattle.domain.specs.Tables.{Users, Tokens, name, link, hosts, state, set-token}

@@ -14,8 +14,8 @@ use Rattle.domain.specs.declared.token.Holding.{Holding}
 use Rattle.domain.specs.declared.token.Holding.the-variants.{Free, Grabbed, Inhibited, Giving, Given}
 use Rattle.domain.specs.declared.token.Token.{Token}
 use Rattle.domain.specs.Cells.{no-channel, no-token, kind, with-marks, hold, token-of}
-use Rattle.places.specs.Sets.{if_then_else_, any, below, has, those, with, without, minus, meet, links, seats}
-use Rattle.places.specs.Places.{Place, At, Nowhere, find, found, spare, seat, used, store, load, becomes, sweep, unused}
+use Rattle.cols_spec.specs.Sets.{if_then_else_, any, below, has, those, with, without, minus, meet, links, seats}
+use Rattle.cols_spec.specs.Places.{Place, At, Nowhere, find, found, spare, seat, used, store, load, becomes, sweep, unused}
 
 pub record Users : Type 0 where
   pub ids : List ℕ

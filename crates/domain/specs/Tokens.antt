@@ -7,9 +7,9 @@ use Rattle.domain.specs.declared.token.Holding.the-variants.{Free, Grabb
 use Rattle.domain.specs.declared.token.Turned.{Turned as CodeTurned}
 use Rattle.domain.specs.declared.token.Turned.the-variants.{Fails, Turns}
 use Rattle.domain.specs.Numbers.{resultNumber}
-use Rattle.places.specs.Sets.{if_then_else_, has, with, without, minus, only, seats}
-use Rattle.messages.specs.Named.{token-not-available, token-not-possessed, too-many-tokens}
-use Rattle.messages.specs.Named.{not-in-use, self-grabbed, other-grabbed, self-inhibited, other-inhibited, self-recipient, self-giving, other-giving}
+use Rattle.cols_spec.specs.Sets.{if_then_else_, has, with, without, minus, only, seats}
+use Rattle.codec_table.specs.Named.{token-not-available, token-not-possessed, too-many-tokens}
+use Rattle.codec_table.specs.Named.{not-in-use, self-grabbed, other-grabbed, self-inhibited, other-inhibited, self-recipient, self-giving, other-giving}
 
 -- what a request makes of a token: it fails with a result and changes nothing, or succeeds and the state is then this
 pub data Turned : Type 0 where

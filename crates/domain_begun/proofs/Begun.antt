@@ -5,9 +5,9 @@ use mathlib.Core.Bool.{Bool, true, false}
 use Prim.Native.Nat.{ℕ}
 use lib.Dec.{eqb}
 use borrow.Author.Tests.{ne-eqb}
-use Rattle.places.specs.Places.{Place, At, Nowhere, find}
-use Rattle.places.specs.Sets.{if_then_else_, has, member}
-use Rattle.places.proofs.Rows.{At≢Nowhere, same-place}
+use Rattle.cols_spec.specs.Places.{Place, At, Nowhere, find}
+use Rattle.cols_spec.specs.Sets.{if_then_else_, has, member}
+use Rattle.cols_spec.proofs.Rows.{At≢Nowhere, same-place}
 use Rattle.domain.specs.declared.Limits.{Limits}
 use Rattle.domain.specs.declared.token.Holding.{Holding}
 use Rattle.domain.specs.declared.token.Holding.the-variants.{Free, Grabbed, Inhibited, Giving, Given}

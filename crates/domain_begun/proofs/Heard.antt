@@ -4,10 +4,10 @@ use mathlib.Core.Option.{Option, none, some}
 use Prim.Native.Nat.{ℕ, _≤_, _<_}
 use native.Mathlib.Omega.{arith}
 use lib.ListN.{getD}
-use Rattle.places.specs.Sets.{has, member}
-use Rattle.places.specs.Places.{Place, At, Nowhere, find}
-use Rattle.places.proofs.Rows.{find-holds, find-there}
-use Rattle.messages.specs.Named.{Message}
+use Rattle.cols_spec.specs.Sets.{has, member}
+use Rattle.cols_spec.specs.Places.{Place, At, Nowhere, find}
+use Rattle.cols_spec.proofs.Rows.{find-holds, find-there}
+use Rattle.codec_table.specs.Named.{Message}
 use Rattle.domain.specs.declared.channel.Kind.{Kind}
 use Rattle.domain.specs.declared.channel.Kind.the-variants.{Static, User, Private, Assigned}
 use Rattle.domain.specs.Cells.{no-channel, kind}

@@ -6,8 +6,8 @@ use mathlib.Core.Bool.{Bool, false, So}
 use mathlib.Core.List.{List}
 use mathlib.Core.Option.{Option, none, some}
 use lib.Dec.{eqb}
-use Rattle.places.specs.Sets.{if_then_else_, all, has, member}
-use Rattle.messages.specs.Named.{Message}
+use Rattle.cols_spec.specs.Sets.{if_then_else_, all, has, member}
+use Rattle.codec_table.specs.Named.{Message}
 use Rattle.domain.specs.Tables.{Domain}
 use Rattle.domain.specs.Good.{Good}
 use Rattle.domain.specs.History.{Start, begins, Gain, nothing, by-grab, by-inhibit}

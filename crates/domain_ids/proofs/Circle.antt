@@ -8,8 +8,8 @@ use native.Mathlib.Nat.{add-suc, add-zero}
 use native.Mathlib.Omega.{arith}
 use lib.Dec.{eqb, ltb}
 use borrow.Author.Tests.{eqb-true, lt-ltb, ltb-true, ltb-false}
-use Rattle.places.specs.Sets.{if_then_else_, keep}
-use Rattle.places.proofs.Bools.{or-elim}
+use Rattle.cols_spec.specs.Sets.{if_then_else_, keep}
+use Rattle.cols_spec.proofs.Bools.{or-elim}
 use Rattle.domain_ids.specs.Rolling.{next-id, Reaches, stops, passes, search-from, how-many, search-finds, Since, just-now, freed, another, far-apart}
 use Rattle.domain.proofs.holders.Counting.{count-to, count-upto}
 

@@ -9,16 +9,16 @@ use lib.Dec.{eqb, ltb}
 use lib.ListN.{length, getD, set, length-set}
 use lib.Seq.{getD-set-same, getD-set-other}
 use borrow.Author.Tests.{eq-eqb, ne-eqb, eqb-true, eqb-false, ltb-false, not-true}
-use Rattle.places.specs.Sets.{if_then_else_, all, any, null, each, has}
-use Rattle.places.specs.Places.{Place, At, Nowhere, find, found, spare, store}
-use Rattle.places.proofs.Bools.{and-parts, or-elim}
-use Rattle.places.proofs.Rows.{find-holds, not-there}
-use Rattle.places.proofs.Answers.{stands-found, found-somewhere, found-nowhere}
-use Rattle.places.proofs.Table.{new-place}
-use Rattle.places.proofs.Found.{find-added, find-still}
-use Rattle.messages.specs.Named.{Message, EDrq, DPum, RJum, AUrq, AUcf, DUrq, DUin, CJrq, CJcf, CLrq, CCrq, CCcf, CDrq, CDin, CArq, CAin, CErq, CEin}
-use Rattle.messages.specs.Named.{TGrq, TGcf, TIrq, TIcf, TVrq, TVin, TVrs, TVcf, TPrq, TPin, TRrq, TRcf, TTrq, TTcf, successful}
-use Rattle.records.specs.Records.{Sent, to, records}
+use Rattle.cols_spec.specs.Sets.{if_then_else_, all, any, null, each, has}
+use Rattle.cols_spec.specs.Places.{Place, At, Nowhere, find, found, spare, store}
+use Rattle.cols_spec.proofs.Bools.{and-parts, or-elim}
+use Rattle.cols_spec.proofs.Rows.{find-holds, not-there}
+use Rattle.cols_spec.proofs.Answers.{stands-found, found-somewhere, found-nowhere}
+use Rattle.cols_spec.proofs.Table.{new-place}
+use Rattle.cols_spec.proofs.Found.{find-added, find-still}
+use Rattle.codec_table.specs.Named.{Message, EDrq, DPum, RJum, AUrq, AUcf, DUrq, DUin, CJrq, CJcf, CLrq, CCrq, CCcf, CDrq, CDin, CArq, CAin, CErq, CEin}
+use Rattle.codec_table.specs.Named.{TGrq, TGcf, TIrq, TIcf, TVrq, TVin, TVrs, TVcf, TPrq, TPin, TRrq, TRcf, TTrq, TTcf, successful}
+use Rattle.out_records.specs.Records.{Sent, to, records}
 use Rattle.domain.specs.declared.channel.Kind.{Kind}
 use Rattle.domain.specs.declared.channel.Kind.the-variants.{Static, User, Private, Assigned}
 use Rattle.domain.specs.declared.channel.Channel.{Channel}

@@ -6,11 +6,11 @@ use mathlib.Core.Bool.{Bool, not, _||_}
 use Prim.Native.Nat.{ℕ}
 use lib.Dec.{eqb, ltb}
 use lib.ListN.{length}
-use Rattle.places.specs.Sets.{if_then_else_, null, each, has}
-use Rattle.places.specs.Places.{Place, At, Nowhere, find}
-use Rattle.messages.specs.Named.{Message, EDrq, DPum, RJum, AUrq, AUcf, DUrq, DUin, CJrq, CJcf, CLrq, CCrq, CCcf, CDrq, CDin, CArq, CAin, CErq, CEin}
-use Rattle.messages.specs.Named.{TGrq, TGcf, TIrq, TIcf, TVrq, TVin, TVrs, TVcf, TPrq, TPin, TRrq, TRcf, TTrq, TTcf, successful}
-use Rattle.records.specs.Records.{Sent, to, records}
+use Rattle.cols_spec.specs.Sets.{if_then_else_, null, each, has}
+use Rattle.cols_spec.specs.Places.{Place, At, Nowhere, find}
+use Rattle.codec_table.specs.Named.{Message, EDrq, DPum, RJum, AUrq, AUcf, DUrq, DUin, CJrq, CJcf, CLrq, CCrq, CCcf, CDrq, CDin, CArq, CAin, CErq, CEin}
+use Rattle.codec_table.specs.Named.{TGrq, TGcf, TIrq, TIcf, TVrq, TVin, TVrs, TVcf, TPrq, TPin, TRrq, TRcf, TTrq, TTcf, successful}
+use Rattle.out_records.specs.Records.{Sent, to, records}
 use Rattle.domain.specs.Cells.{kind}
 use Rattle.domain.specs.Tables.{Users, Channels, Domain, channel, attached}
 use Rattle.domain.specs.Effects.{Effect, ignored, done, from, within}

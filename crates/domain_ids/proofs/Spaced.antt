@@ -6,8 +6,8 @@ use mathlib.Core.List.{List, [], _∷_, _++_}
 use Prim.Native.Nat.{ℕ, suc, _≤_}
 use native.Mathlib.Omega.{arith}
 use lib.ListN.{length}
-use Rattle.places.specs.Sets.{all}
-use Rattle.places.proofs.Bools.{and-parts, and-both}
+use Rattle.cols_spec.specs.Sets.{all}
+use Rattle.cols_spec.proofs.Bools.{and-parts, and-both}
 use Rattle.domain.specs.Tables.{Domain, between}
 use Rattle.domain.specs.Events.{Outcome, step-with}
 use Rattle.domain.specs.Good.{Good}

@@ -6,9 +6,9 @@ use mathlib.Core.Bool.{Bool, true, false, _&&_, _||_, So}
 use mathlib.Core.List.{List, [], _∷_, _++_}
 use lib.Dec.{eqb, ltb}
 use lib.ListN.{length}
-use Rattle.places.specs.Sets.{if_then_else_, keep, all, each, below}
-use Rattle.places.specs.Places.{find, found}
-use Rattle.records.specs.Records.{Sent, to}
+use Rattle.cols_spec.specs.Sets.{if_then_else_, keep, all, each, below}
+use Rattle.cols_spec.specs.Places.{find, found}
+use Rattle.out_records.specs.Records.{Sent, to}
 use Rattle.domain.specs.declared.Limits.{Limits}
 use Rattle.domain.specs.Tables.{Domain, fresh, Free-id}
 use Rattle.domain.specs.Events.{Event, step-with}

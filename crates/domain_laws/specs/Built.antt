@@ -6,8 +6,8 @@ use mathlib.Core.Bool.{Bool, true, false, _&&_, So}
 use mathlib.Core.List.{List, [], _∷_, _++_, map}
 use lib.Dec.{leb, ltb}
 use lib.ListN.{length, replicate}
-use Rattle.places.specs.Sets.{all}
-use Rattle.places.specs.Places.{find, found, number}
+use Rattle.cols_spec.specs.Sets.{all}
+use Rattle.cols_spec.specs.Places.{find, found, number}
 use Rattle.domain.specs.declared.channel.Kind.{Kind}
 use Rattle.domain.specs.declared.channel.Kind.the-variants.{Static, User, Private, Assigned}
 use Rattle.domain.specs.declared.channel.Channel.{Channel}

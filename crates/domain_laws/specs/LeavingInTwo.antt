@@ -3,8 +3,8 @@ use Prim.Native.Nat.{ℕ}
 use mathlib.Core.Path.{_≡_}
 use mathlib.Core.Bool.{_||_}
 use mathlib.Core.List.{List}
-use Rattle.places.specs.Sets.{member}
-use Rattle.messages.specs.Named.{DUrq}
+use Rattle.cols_spec.specs.Sets.{member}
+use Rattle.codec_table.specs.Named.{DUrq}
 use Rattle.domain.specs.Tables.{Domain}
 use Rattle.domain.specs.Events.{Outcome, hears, reads, step}
 use Rattle.domain.specs.Good.{Good}

@@ -5,8 +5,8 @@ use mathlib.Core.Path.{_≡_}
 use mathlib.Core.Bool.{Bool, false, So}
 use mathlib.Core.List.{List}
 use mathlib.Core.Option.{Option, none, some}
-use Rattle.places.specs.Sets.{keep, all, has}
-use Rattle.places.specs.Places.{find, inOrder}
+use Rattle.cols_spec.specs.Sets.{keep, all, has}
+use Rattle.cols_spec.specs.Places.{find, inOrder}
 use Rattle.domain.specs.declared.channel.Kind.{Kind}
 use Rattle.domain.specs.declared.channel.Kind.the-variants.{Static, User, Private, Assigned}
 use Rattle.domain.specs.declared.token.Holding.{Holding}

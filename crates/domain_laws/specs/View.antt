@@ -4,8 +4,8 @@ use mathlib.Core.Path.{_≡_}
 use mathlib.Core.List.{List, [], _∷_}
 use mathlib.Core.Option.{Option, none, some}
 use lib.Dec.{eqb}
-use Rattle.places.specs.Sets.{if_then_else_, each}
-use Rattle.places.specs.Places.{inOrder}
+use Rattle.cols_spec.specs.Sets.{if_then_else_, each}
+use Rattle.cols_spec.specs.Places.{inOrder}
 use Rattle.domain.specs.declared.Limits.{Limits}
 use Rattle.domain.specs.Tables.{Domain}
 use Rattle.domain.specs.Good.{Good}

@@ -1,4 +1,4 @@
 // The trace program in words: frames from standard input, told frame by frame on standard output.
 fn main() {
-    tracing::run(tracing::Form::Words);
+    trace_run::run(trace_run::Form::Words);
 }

@@ -7,7 +7,7 @@ use Prim.Native.Nat.{ℕ}
 use borrow.Author.Tests.{eqb-true}
 use lib.Dec.{eqb}
 use lib.ListN.{length}
-use Rattle.places.specs.Sets.{any, keep, below}
+use Rattle.cols_spec.specs.Sets.{any, keep, below}
 use Rattle.domain.specs.Events.{Event}
 use Rattle.domain.specs.History.{Entry, Start, History, begins, _▹_, Word, detaches, closes, grabs, inhibits, yields, offers, accepts, declines, link-of, asks, same, is, told, said, closed, leaves, home, open-offer}
 use Rattle.domain.specs.History.{gain, held, every-id, busy, count}

@@ -8,9 +8,9 @@ use borrow.Author.Tests.{ltb-true, ltb-false}
 use lib.Dec.{ltb}
 use lib.ListN.{length, drop}
 use lib.Seq.{take-append-seam, drop-append-seam}
-use Rattle.places.specs.Sets.{if_then_else_, has}
-use Rattle.messages.specs.Named.{Message}
-use Rattle.records.specs.Records.{records}
+use Rattle.cols_spec.specs.Sets.{if_then_else_, has}
+use Rattle.codec_table.specs.Named.{Message}
+use Rattle.out_records.specs.Records.{records}
 use Rattle.domain.specs.Tables.{Domain, grant}
 use Rattle.domain.specs.Effects.{Effect, ignored, done}
 use Rattle.domain.specs.Events.{Outcome, hears, reads, stays, sends, ends, complaint, act, answers, step-with, step}

@@ -7,17 +7,17 @@ use Prim.Native.Nat.{ℕ, _<_}
 use native.Mathlib.Omega.{arith}
 use lib.Dec.{ltb}
 use lib.ListN.{length}
-use Rattle.places.specs.Sets.{if_then_else_, has}
-use Rattle.messages.specs.Messages.{may-go-up, is-served}
-use Rattle.messages.specs.Codec.{Outcome, ok, refuse, sized}
-use Rattle.messages.specs.Named.{Message, heard}
-use Rattle.messages.proofs.NamedLaws.{heard-formed}
-use Rattle.records.specs.Records.{records}
+use Rattle.cols_spec.specs.Sets.{if_then_else_, has}
+use Rattle.codec_table.specs.Messages.{may-go-up, is-served}
+use Rattle.codec_table.specs.Codec.{Outcome, ok, refuse, sized}
+use Rattle.codec_table.specs.Named.{Message, heard}
+use Rattle.codec_table.proofs.NamedLaws.{heard-formed}
+use Rattle.out_records.specs.Records.{records}
 use Rattle.domain.specs.Tables.{Domain}
 use Rattle.domain.specs.Events.{Reading, reads, refuses, hears, stays, sends, complaint, answers, step-with, step}
 use Rattle.domain.specs.Claims.{formed}
 use Rattle.domain.proofs.invariant.Sound.{is-between}
-use Rattle.understanding.specs.Understood.{number-in, read-as, understood}
+use Rattle.serve_read.specs.Understood.{number-in, read-as, understood}
 use Rattle.provider.proofs.Replies.{Fair, understood-fair}
 use Rattle.history.specs.Recorded.{Call, opening, losing, message, read-call}
 use Rattle.history.specs.Served.{event, Bytewise}

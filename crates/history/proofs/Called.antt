@@ -9,7 +9,7 @@ use Rattle.domain.specs.Tables.{Domain, put-links}
 use Rattle.domain.specs.Effects.{Settled, settled, answered}
 use Rattle.domain.specs.Events.{opens, loses, hears}
 use Rattle.domain.specs.Outcomes.{after, begun}
-use Rattle.understanding.specs.Understood.{understood}
+use Rattle.serve_read.specs.Understood.{understood}
 use Rattle.history.specs.Recorded.{opening, losing, message, Note, note}
 use Rattle.history.specs.Served.{Turn, event, Run, run, tables, notes, noting, noted, served, serves, started, Calls, no-more, then-calls}
 

@@ -6,9 +6,9 @@ use mathlib.Core.List.{List, [], map}
 use Prim.Native.Nat.{ℕ}
 use lib.Dec.{leb}
 use lib.ListN.{length}
-use Rattle.places.specs.Places.{used}
-use Rattle.messages.specs.Codec.{Outcome}
-use Rattle.messages.specs.Named.{Message}
+use Rattle.cols_spec.specs.Places.{used}
+use Rattle.codec_table.specs.Codec.{Outcome}
+use Rattle.codec_table.specs.Named.{Message}
 use Rattle.domain.specs.Tables.{Domain}
 use Rattle.domain.specs.Events.{Event, hears, reads, step}
 use Rattle.domain.specs.Good.{Good}
@@ -20,8 +20,8 @@ use Rattle.domain_begun.specs.Begun.{begun-by}
 use Rattle.domain.proofs.holders.Demand.{demand as event-demand}
 use Rattle.domain_begun.proofs.Begun.{tables-claims as event-tables}
 use Rattle.domain.specs.Outcomes.{limited, turned as answer-turned, after}
-use Rattle.understanding.specs.Understood.{read-as}
-use Rattle.octets.specs.Octets.{Bytes}
+use Rattle.serve_read.specs.Understood.{read-as}
+use Rattle.codec_octets.specs.Octets.{Bytes}
 use Rattle.imaging.specs.Claims.{restored, start-of}
 use Rattle.history.specs.Recorded.{message, read-call}
 use Rattle.history.specs.Served.{Turn, All-bytewise, event, Run, run, tables, serves, started}

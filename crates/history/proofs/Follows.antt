@@ -6,10 +6,10 @@ use mathlib.Core.List.{List, [], _∷_, _++_, map}
 use Prim.Native.Nat.{ℕ}
 use lib.ListN.{length, take, drop}
 use lib.Seq.{take-append-seam}
-use Rattle.places.specs.Sets.{all}
-use Rattle.places.proofs.Bools.{and-parts, and-both}
-use Rattle.messages.proofs.NamedLaws.{User}
-use Rattle.records.specs.Records.{Sent, records}
+use Rattle.cols_spec.specs.Sets.{all}
+use Rattle.cols_spec.proofs.Bools.{and-parts, and-both}
+use Rattle.codec_table.proofs.NamedLaws.{User}
+use Rattle.out_records.specs.Records.{Sent, records}
 use Rattle.domain.specs.Tables.{Domain, grant, between}
 use Rattle.domain.specs.Events.{step}
 use Rattle.domain.specs.Good.{Good}

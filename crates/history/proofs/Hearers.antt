@@ -6,8 +6,8 @@ use mathlib.Core.Option.{Option, none, some}
 use Prim.Native.Nat.{ℕ}
 use borrow.Author.Tests.{eqb-true}
 use lib.Dec.{eqb}
-use Rattle.messages.specs.Named.{Message}
-use Rattle.records.specs.Records.{Sent, to}
+use Rattle.codec_table.specs.Named.{Message}
+use Rattle.out_records.specs.Records.{Sent, to}
 use Rattle.domain.specs.Tables.{Domain}
 use Rattle.domain.specs.Events.{Event}
 use Rattle.domain.specs.History.{Entry, Start, nothing-yet, History, begins, _▹_}

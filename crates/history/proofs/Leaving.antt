@@ -3,8 +3,8 @@ use mathlib.Core.Path.{_≡_, refl, sym, ap, _∙_}
 use mathlib.Core.List.{List, [], _∷_}
 use Prim.Native.Nat.{ℕ, _≤_}
 use lib.ListN.{length}
-use Rattle.messages.specs.Messages.{entry, is-served}
-use Rattle.messages.specs.Named.{DUrq, fields}
+use Rattle.codec_table.specs.Messages.{entry, is-served}
+use Rattle.codec_table.specs.Named.{DUrq, fields}
 use Rattle.domain.specs.Tables.{Domain}
 use Rattle.domain.specs.Events.{Reading, Outcome, hears, step}
 use Rattle.domain.specs.Good.{Good}
@@ -12,7 +12,7 @@ use Rattle.domain.specs.Outcomes.{turned, after}
 use Rattle.domain_laws.specs.LeavingInTwo.{Report, reported, Has-room as Report-has-room, Names-both}
 use Rattle.domain.proofs.invariant.Invariant.{good-next}
 use Rattle.domain_laws.proofs.intwo.Reports.{in-two}
-use Rattle.understanding.proofs.Understanding.{heard-understood}
+use Rattle.serve_read.proofs.Understanding.{heard-understood}
 use Rattle.provider.proofs.Room.{never-9}
 use Rattle.history.specs.Served.{event, Run, tables, served, serves}
 use Rattle.history.specs.Leaving.{Detaching, on, Has-room, Equal-tables, Equal-left, Where-room, Where-ample, In-two, in-two-from-start, in-two-from-image}

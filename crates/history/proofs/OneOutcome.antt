@@ -4,7 +4,7 @@ use mathlib.Core.List.{List, [], _∷_, map}
 use Prim.Native.Nat.{ℕ}
 use native.Mathlib.Omega.{arith}
 use lib.ListN.{length}
-use Rattle.places.specs.Places.{used}
+use Rattle.cols_spec.specs.Places.{used}
 use Rattle.domain.specs.declared.Limits.{Limits}
 use Rattle.domain.specs.declared.answer.Answer.{Answer}
 use Rattle.domain.specs.declared.numbers.Reply.{Reply}
@@ -12,9 +12,9 @@ use Rattle.domain.specs.Numbers.{replyNumber}
 use Rattle.domain.specs.Tables.{Channels, Domain, channel-cells, token-cells, domain-of, fresh, put-links}
 use Rattle.domain.specs.Effects.{Settled, settled, answered}
 use Rattle.domain.specs.Events.{opens, loses, hears}
-use Rattle.starting.specs.declared.Started.{Started}
+use Rattle.serve_session.specs.declared.Started.{Started}
 use Rattle.domain.specs.Outcomes.{after, limited, begun, audience}
-use Rattle.understanding.specs.Understood.{understood}
+use Rattle.serve_read.specs.Understood.{understood}
 use Rattle.provider.proofs.Replies.{same-reply, one-outcome}
 
 -- the columns that are lent

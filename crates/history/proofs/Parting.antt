@@ -5,14 +5,14 @@ use mathlib.Core.List.{List, [], _++_}
 use Prim.Native.Nat.{ℕ, _≤_}
 use native.Mathlib.Omega.{arith}
 use lib.ListN.{length, getD}
-use Rattle.places.specs.Sets.{if_then_else_, null, each, once, has, with, meet, links, seats}
-use Rattle.places.specs.Places.{Place, At, Nowhere, find, inOrder, load}
-use Rattle.places.proofs.Order.{in-order-length}
-use Rattle.places.proofs.Rows.{find-holds}
-use Rattle.messages.specs.Named.{DUin, CDin}
-use Rattle.messages.proofs.NamedLaws.{User, Token, Users}
-use Rattle.records.specs.Records.{Sent, tell}
-use Rattle.compose.specs.declared.Confirm.the-variants.{Give}
+use Rattle.cols_spec.specs.Sets.{if_then_else_, null, each, once, has, with, meet, links, seats}
+use Rattle.cols_spec.specs.Places.{Place, At, Nowhere, find, inOrder, load}
+use Rattle.cols_spec.proofs.Order.{in-order-length}
+use Rattle.cols_spec.proofs.Rows.{find-holds}
+use Rattle.codec_table.specs.Named.{DUin, CDin}
+use Rattle.codec_table.proofs.NamedLaws.{User, Token, Users}
+use Rattle.out_records.specs.Records.{Sent, tell}
+use Rattle.out_messages.specs.declared.Confirm.the-variants.{Give}
 use Rattle.domain.specs.declared.channel.Kind.{Kind}
 use Rattle.domain.specs.declared.channel.Kind.the-variants.{Static, User as UserId, Private, Assigned}
 use Rattle.domain.specs.declared.token.Holding.{Holding}

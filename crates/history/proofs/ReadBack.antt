@@ -7,12 +7,12 @@ use native.Mathlib.Omega.{arith}
 use borrow.Author.Tests.{le-leb}
 use lib.ListN.{length, take, drop, length-append}
 use lib.Seq.{take-append-seam, drop-append-seam}
-use Rattle.messages.specs.Limits.{message-limit}
-use Rattle.messages.specs.Codec.{ok}
-use Rattle.messages.specs.Named.{Message, formed, heard}
-use Rattle.messages.proofs.NamedLaws.{sizeOf, formed-sent, sent-heard}
-use Rattle.records.proofs.Laying.{framed-length}
-use Rattle.records.specs.Records.{Sent, to, wire, framed, octets, records}
+use Rattle.codec_table.specs.Limits.{message-limit}
+use Rattle.codec_table.specs.Codec.{ok}
+use Rattle.codec_table.specs.Named.{Message, formed, heard}
+use Rattle.codec_table.proofs.NamedLaws.{sizeOf, formed-sent, sent-heard}
+use Rattle.out_records.proofs.Laying.{framed-length}
+use Rattle.out_records.specs.Records.{Sent, to, wire, framed, octets, records}
 use Rattle.history.specs.Recorded.{size, is-record, inside, carried, read-some, read-records}
 
 -- a message that the codec writes: fields in range, and not too long

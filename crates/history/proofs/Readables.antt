@@ -6,15 +6,15 @@ use mathlib.Core.Option.{Option, none, some}
 use Prim.Native.Nat.{ℕ, zero, suc, _≤_, zero-le}
 use native.Mathlib.Omega.{arith}
 use lib.ListN.{length, take, length-take}
-use Rattle.places.specs.Sets.{if_then_else_, keep, each, listed, links}
-use Rattle.octets.specs.Octets.{Bytes, anOctet, anId}
-use Rattle.messages.specs.Limits.{message-limit}
-use Rattle.messages.specs.Named.{Message, RJum, AUcf, DUin, CJcf, CCcf, CDin, CAin, CEin, TGcf, TIcf, TVcf, TRcf, TVin, TPin, TTcf}
-use Rattle.messages.proofs.NamedLaws.{Between, Each, User, Channel, Token, Users, Present, Ranges, in-ranges, sizeOf, idsSize, short-length}
-use Rattle.records.specs.Records.{Sent, to, tell}
-use Rattle.compose.specs.declared.Confirm.{Confirm}
-use Rattle.compose.specs.declared.Confirm.the-variants.{Grab, Inhibit, Give, Release}
-use Rattle.compose.specs.Confirms.{confirm}
+use Rattle.cols_spec.specs.Sets.{if_then_else_, keep, each, listed, links}
+use Rattle.codec_octets.specs.Octets.{Bytes, anOctet, anId}
+use Rattle.codec_table.specs.Limits.{message-limit}
+use Rattle.codec_table.specs.Named.{Message, RJum, AUcf, DUin, CJcf, CCcf, CDin, CAin, CEin, TGcf, TIcf, TVcf, TRcf, TVin, TPin, TTcf}
+use Rattle.codec_table.proofs.NamedLaws.{Between, Each, User, Channel, Token, Users, Present, Ranges, in-ranges, sizeOf, idsSize, short-length}
+use Rattle.out_records.specs.Records.{Sent, to, tell}
+use Rattle.out_messages.specs.declared.Confirm.{Confirm}
+use Rattle.out_messages.specs.declared.Confirm.the-variants.{Grab, Inhibit, Give, Release}
+use Rattle.out_messages.specs.Confirms.{confirm}
 use Rattle.history.proofs.ReadBack.{Readable, Readables}
 
 -- fields in their ranges, and not too long

@@ -4,7 +4,7 @@ use mathlib.Core.Bool.{Bool, true, false, So}
 use mathlib.Core.List.{List, [], map}
 use Prim.Native.Nat.{ℕ}
 use native.Mathlib.Omega.{arith}
-use Rattle.places.specs.Sets.{if_then_else_}
+use Rattle.cols_spec.specs.Sets.{if_then_else_}
 use Rattle.domain.specs.declared.Limits.{Limits}
 use Rattle.domain.specs.Tables.{Domain, fresh, in-range}
 use Rattle.domain.specs.Good.{Good}
@@ -16,7 +16,7 @@ use Rattle.domain.proofs.invariant.Fresh.{fresh-good}
 use Rattle.domain.proofs.invariant.Invariant.{good-goes, good-run}
 use Rattle.domain_laws.proofs.restored.Taken.{taken}
 use Rattle.domain.specs.Outcomes.{limited, begun}
-use Rattle.octets.specs.Octets.{Bytes}
+use Rattle.codec_octets.specs.Octets.{Bytes}
 use Rattle.imaging.specs.Claims.{restored, start-of}
 use Rattle.imaging.proofs.Whole.{reads-zero}
 use Rattle.history.specs.Recorded.{read}

@@ -6,12 +6,12 @@ use Prim.Native.Nat.{ℕ}
 use native.Mathlib.Omega.{arith}
 use lib.Dec.{eqb, ltb}
 use lib.ListN.{length}
-use Rattle.octets.specs.Octets.{Bytes}
-use Rattle.places.specs.Sets.{if_then_else_, has, with, links}
-use Rattle.messages.specs.Named.{Message, EDrq, DPum, RJum, AUrq, AUcf, DUrq, DUin, CJrq, CJcf, CLrq, CCrq, CCcf, CDrq, CDin, CArq, CAin, CErq, CEin}
-use Rattle.messages.specs.Named.{TGrq, TGcf, TIrq, TIcf, TVrq, TVin, TVrs, TVcf, TPrq, TPin, TRrq, TRcf, TTrq, TTcf, formed}
-use Rattle.messages.proofs.NamedLaws.{User, ranges}
-use Rattle.records.specs.Records.{Sent, records}
+use Rattle.codec_octets.specs.Octets.{Bytes}
+use Rattle.cols_spec.specs.Sets.{if_then_else_, has, with, links}
+use Rattle.codec_table.specs.Named.{Message, EDrq, DPum, RJum, AUrq, AUcf, DUrq, DUin, CJrq, CJcf, CLrq, CCrq, CCcf, CDrq, CDin, CArq, CAin, CErq, CEin}
+use Rattle.codec_table.specs.Named.{TGrq, TGcf, TIrq, TIcf, TVrq, TVin, TVrs, TVcf, TPrq, TPin, TRrq, TRcf, TTrq, TTcf, formed}
+use Rattle.codec_table.proofs.NamedLaws.{User, ranges}
+use Rattle.out_records.specs.Records.{Sent, records}
 use Rattle.domain.specs.Tables.{Domain, put-links, put-channels, put-tokens, put-both, grant}
 use Rattle.domain.specs.Effects.{Effect, ignored, done}
 use Rattle.domain.specs.Leaving.{close}

@@ -6,13 +6,13 @@ use Prim.Native.Nat.{ℕ, _≤_}
 use native.Mathlib.Omega.{arith}
 use lib.Dec.{eqb}
 use lib.ListN.{length}
-use Rattle.places.specs.Sets.{if_then_else_, keep, null, each, below, once, links}
-use Rattle.places.specs.Places.{Place, At, Nowhere, find, found}
-use Rattle.places.proofs.Order.{keep-le}
-use Rattle.places.proofs.Rows.{find-holds}
-use Rattle.messages.specs.Named.{Message, CAin, CEin}
-use Rattle.messages.proofs.NamedLaws.{User, Token, Users}
-use Rattle.compose.specs.declared.Confirm.the-variants.{Give}
+use Rattle.cols_spec.specs.Sets.{if_then_else_, keep, null, each, below, once, links}
+use Rattle.cols_spec.specs.Places.{Place, At, Nowhere, find, found}
+use Rattle.cols_spec.proofs.Order.{keep-le}
+use Rattle.cols_spec.proofs.Rows.{find-holds}
+use Rattle.codec_table.specs.Named.{Message, CAin, CEin}
+use Rattle.codec_table.proofs.NamedLaws.{User, Token, Users}
+use Rattle.out_messages.specs.declared.Confirm.the-variants.{Give}
 use Rattle.domain.specs.declared.token.Holding.{Holding}
 use Rattle.domain.specs.declared.token.Holding.the-variants.{Free, Grabbed, Inhibited, Giving, Given}
 use Rattle.domain.specs.Tables.{Domain, name, link, attached, state}

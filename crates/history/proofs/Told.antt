@@ -6,13 +6,13 @@ use mathlib.Core.Option.{none, some}
 use Prim.Native.Nat.{ℕ, zero, suc, _≤_, zero-le}
 use native.Mathlib.Omega.{arith}
 use lib.Dec.{eqb, ltb}
-use Rattle.places.specs.Sets.{if_then_else_, any, has, with, only, seats}
-use Rattle.places.specs.Places.{Place, At, Nowhere, find}
-use Rattle.messages.specs.Named.{CDin, TVcf, TPin}
-use Rattle.messages.proofs.NamedLaws.{User, Channel, Token}
-use Rattle.compose.specs.declared.Confirm.{Confirm}
-use Rattle.compose.specs.declared.Confirm.the-variants.{Grab, Inhibit, Give, Release}
-use Rattle.compose.specs.Confirms.{confirm}
+use Rattle.cols_spec.specs.Sets.{if_then_else_, any, has, with, only, seats}
+use Rattle.cols_spec.specs.Places.{Place, At, Nowhere, find}
+use Rattle.codec_table.specs.Named.{CDin, TVcf, TPin}
+use Rattle.codec_table.proofs.NamedLaws.{User, Channel, Token}
+use Rattle.out_messages.specs.declared.Confirm.{Confirm}
+use Rattle.out_messages.specs.declared.Confirm.the-variants.{Grab, Inhibit, Give, Release}
+use Rattle.out_messages.specs.Confirms.{confirm}
 use Rattle.domain.specs.declared.channel.Kind.{Kind}
 use Rattle.domain.specs.declared.channel.Kind.the-variants.{Static, User as UserId, Private, Assigned}
 use Rattle.domain.specs.declared.token.Holding.{Holding}

@@ -5,7 +5,7 @@ use Prim.Native.Nat.{ℕ}
 use Rattle.domain.specs.History.{nothing-yet, home, Gain, nothing, by-grab, gain}
 use Rattle.domain.proofs.Opened.{opened}
 use Rattle.domain.specs.Outcomes.{turned, after, begun}
-use Rattle.understanding.specs.Understood.{number-in, read-as, understood}
+use Rattle.serve_read.specs.Understood.{number-in, read-as, understood}
 use Rattle.history.specs.Recorded.{read-call, size, is-record, inside, carried, read-some, read-records, read-note, read}
 use Rattle.history.specs.Served.{event, tables, notes, served, serves, started}
 use Rattle.history.specs.Example.{attaching, grabbing, room, turns, end, held-notes, all-notes}

@@ -3,13 +3,13 @@ use Prim.Native.Nat.{ℕ, _≤_}
 use mathlib.Core.Path.{_≡_}
 use mathlib.Core.List.{List, []}
 use lib.ListN.{length, take, drop}
-use Rattle.records.specs.Records.{Sent, records}
+use Rattle.out_records.specs.Records.{Sent, records}
 use Rattle.domain.specs.Tables.{Domain}
 use Rattle.domain.specs.Effects.{Settled}
 use Rattle.domain.specs.Good.{Good}
 use Rattle.domain.specs.Events.{complaint}
 use Rattle.domain.specs.Outcomes.{begun, after}
-use Rattle.octets.specs.Octets.{Bytes}
+use Rattle.codec_octets.specs.Octets.{Bytes}
 use Rattle.imaging.specs.Claims.{restored}
 use Rattle.history.specs.Recorded.{Call, opening, losing, message}
 use Rattle.history.specs.Served.{event, Turn, Bytewise, All-bytewise, run, tables, noted, serves, started}

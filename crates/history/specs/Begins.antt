@@ -2,7 +2,7 @@
 use Prim.Native.Nat.{ℕ}
 use mathlib.Core.Path.{_≡_}
 use mathlib.Core.List.{List, []}
-use Rattle.octets.specs.Octets.{Bytes}
+use Rattle.codec_octets.specs.Octets.{Bytes}
 use Rattle.domain.specs.Tables.{Domain}
 use Rattle.domain.specs.History.{Start, nothing-yet}
 use Rattle.domain.specs.Good.{Good}

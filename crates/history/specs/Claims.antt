@@ -5,10 +5,10 @@ use mathlib.Core.Bool.{not, _&&_, So}
 use mathlib.Core.List.{List, []}
 use mathlib.Core.Option.{some}
 use lib.Dec.{leb}
-use Rattle.places.specs.Places.{used}
-use Rattle.octets.specs.Octets.{Bytes}
-use Rattle.messages.specs.Codec.{ok}
-use Rattle.messages.specs.Named.{Message, TGrq, TIrq, heard}
+use Rattle.cols_spec.specs.Places.{used}
+use Rattle.codec_octets.specs.Octets.{Bytes}
+use Rattle.codec_table.specs.Codec.{ok}
+use Rattle.codec_table.specs.Named.{Message, TGrq, TIrq, heard}
 use Rattle.domain.specs.Tables.{Domain}
 use Rattle.domain.specs.History.{Start, nothing-yet, History, full, told, home, gain, held, alone, busy, count}
 use Rattle.domain.specs.Good.{Good}

@@ -1,7 +1,7 @@
 -- Who could have heard, claimed of every run of the provider from a domain just made, or from the tables of an image, read from what can be recorded of it alone.
 use Prim.Native.Nat.{ℕ}
 use mathlib.Core.Option.{Option}
-use Rattle.messages.specs.Named.{Message}
+use Rattle.codec_table.specs.Named.{Message}
 use Rattle.domain.specs.History.{Start}
 use Rattle.domain.specs.Hearers.{Hearing, Data-right}
 use Rattle.history.specs.Served.{Run, tables}

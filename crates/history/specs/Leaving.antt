@@ -3,9 +3,9 @@ use Prim.Native.Nat.{ℕ, _≤_}
 use mathlib.Core.Path.{_≡_}
 use mathlib.Core.List.{List, [], _∷_}
 use lib.ListN.{length}
-use Rattle.octets.specs.Octets.{Bytes}
-use Rattle.messages.specs.Codec.{ok}
-use Rattle.messages.specs.Named.{DUrq, heard}
+use Rattle.codec_octets.specs.Octets.{Bytes}
+use Rattle.codec_table.specs.Codec.{ok}
+use Rattle.codec_table.specs.Named.{DUrq, heard}
 use Rattle.domain_laws.specs.LeavingInTwo.{Names-both}
 use Rattle.history.specs.Recorded.{message}
 use Rattle.history.specs.Served.{Turn, Run, tables, noted, served, serves, Calls}

@@ -4,13 +4,13 @@ use mathlib.Core.Bool.{Bool, _&&_}
 use mathlib.Core.List.{List, [], _∷_, _++_}
 use lib.Dec.{eqb, leb}
 use lib.ListN.{length, getD, take, drop}
-use Rattle.places.specs.Sets.{if_then_else_}
-use Rattle.messages.specs.Codec.{Outcome, ok, refuse}
-use Rattle.messages.specs.Named.{Message, heard}
-use Rattle.records.specs.Records.{Sent, to}
+use Rattle.cols_spec.specs.Sets.{if_then_else_}
+use Rattle.codec_table.specs.Codec.{Outcome, ok, refuse}
+use Rattle.codec_table.specs.Named.{Message, heard}
+use Rattle.out_records.specs.Records.{Sent, to}
 use Rattle.domain.specs.Events.{Event, opens, loses, hears}
 use Rattle.domain.specs.History.{Entry, Start, History, begins, _▹_}
-use Rattle.understanding.specs.Understood.{read-as}
+use Rattle.serve_read.specs.Understood.{read-as}
 
 -- "Events: open connection p, lose connection p, message on p", a message with its octets
 pub data Call : Type 0 where

@@ -3,13 +3,13 @@ use Prim.Native.Nat.{ℕ}
 use mathlib.Core.Path.{_≡_}
 use mathlib.Core.List.{List, [], _∷_}
 use lib.ListN.{take}
-use Rattle.octets.specs.Octets.{Bytes}
+use Rattle.codec_octets.specs.Octets.{Bytes}
 use Rattle.domain.specs.declared.answer.Answer.{Answer}
 use Rattle.domain.specs.Tables.{Domain}
 use Rattle.domain.specs.Effects.{Settled, answered}
 use Rattle.domain.specs.Events.{Event, opens, loses, hears}
 use Rattle.domain.specs.Outcomes.{begun, after}
-use Rattle.understanding.specs.Understood.{understood}
+use Rattle.serve_read.specs.Understood.{understood}
 use Rattle.history.specs.Recorded.{Call, opening, losing, message, Note, note}
 
 -- the event that `open`, `lose` and `message` promise to serve

@@ -8,14 +8,14 @@ use native.Mathlib.Omega.{arith}
 use lib.Dec.{eqb}
 use lib.ListN.{length, getD}
 use borrow.Author.Tests.{eq-eqb, not-true}
-use Rattle.places.specs.Places.{Place, At, Nowhere, find, inOrder}
-use Rattle.places.specs.Sets.{any, each, member}
-use Rattle.places.proofs.Answers.{found-somewhere}
-use Rattle.places.proofs.Bools.{and-parts, none≢some}
-use Rattle.places.proofs.Marks.{has-low}
-use Rattle.places.proofs.Members.{member-keep}
-use Rattle.places.proofs.Order.{keep-le, in-order-length}
-use Rattle.places.proofs.Rows.{find-holds, getD-any}
+use Rattle.cols_spec.specs.Places.{Place, At, Nowhere, find, inOrder}
+use Rattle.cols_spec.specs.Sets.{any, each, member}
+use Rattle.cols_spec.proofs.Answers.{found-somewhere}
+use Rattle.cols_spec.proofs.Bools.{and-parts, none≢some}
+use Rattle.cols_spec.proofs.Marks.{has-low}
+use Rattle.cols_spec.proofs.Members.{member-keep}
+use Rattle.cols_spec.proofs.Order.{keep-le, in-order-length}
+use Rattle.cols_spec.proofs.Rows.{find-holds, getD-any}
 use Rattle.domain.specs.declared.channel.Kind.{Kind}
 use Rattle.domain.specs.declared.channel.Kind.the-variants.{Static, User, Private, Assigned}
 use Rattle.domain.specs.declared.token.Holding.{Holding}

@@ -6,12 +6,12 @@ use Prim.Native.Nat.{ℕ, _<_, _≤_, _^_}
 use native.Mathlib.Omega.{arith}
 use lib.Dec.{eqb, leb, ltb}
 use borrow.Author.Tests.{eq-eqb, eqb-true, leb-true}
-use Rattle.places.specs.Sets.{if_then_else_, keep, any, all, upto, below, has, those, listed, member}
-use Rattle.places.proofs.Bools.{and-parts, and-both, or-elim}
-use Rattle.places.proofs.Below.{any-hit}
-use Rattle.places.proofs.Digits.{has-those, those-lt, mask-ext}
-use Rattle.places.proofs.Marks.{has-low}
-use Rattle.places.proofs.Members.{member-keep}
+use Rattle.cols_spec.specs.Sets.{if_then_else_, keep, any, all, upto, below, has, those, listed, member}
+use Rattle.cols_spec.proofs.Bools.{and-parts, and-both, or-elim}
+use Rattle.cols_spec.proofs.Below.{any-hit}
+use Rattle.cols_spec.proofs.Digits.{has-those, those-lt, mask-ext}
+use Rattle.cols_spec.proofs.Marks.{has-low}
+use Rattle.cols_spec.proofs.Members.{member-keep}
 use Rattle.domain_laws.specs.Built.{ascending}
 use Rattle.domain_laws.proofs.same.Twins.{bool-ext}
 use Rattle.domain_laws.proofs.restored.Ascending.{up-member, up-keep, up-ext, all-member, member-all}

@@ -5,10 +5,10 @@ use Prim.Native.Nat.{ℕ, zero, suc, _<_, _≤_, _%_, _^_}
 use native.Mathlib.Nat.{mod-lt, one-le-pow, div-lt-iff-lt-mul, pow-succ'}
 use native.Mathlib.Omega.{arith}
 use lib.ListN.{length}
-use Rattle.octets.specs.Octets.{octetsOf, Bytes}
+use Rattle.codec_octets.specs.Octets.{octetsOf, Bytes}
 use lib.Dec.{leb}
 use borrow.Author.Tests.{leb-true}
-use Rattle.places.specs.Sets.{each, listed}
+use Rattle.cols_spec.specs.Sets.{each, listed}
 use Rattle.domain.specs.Tables.{Domain, in-range}
 use Rattle.domain_laws.specs.Same.{Role, static, user-id, assigned, private-of, Standing, nobody, grabbed, inhibited, giving, given}
 use Rattle.domain_laws.specs.View.{view}

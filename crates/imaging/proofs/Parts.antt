@@ -4,9 +4,9 @@ use mathlib.Core.List.{List, [], _∷_, _++_, append-assoc}
 use Prim.Native.Nat.{ℕ, zero, suc, _<_, _^_}
 use lib.ListN.{length}
 use borrow.Author.Tests.{lt-ltb}
-use Rattle.octets.specs.Octets.{got, Reader, follow, _>>=_, give, octet, octetsOf, number, Bytes}
-use Rattle.octets.proofs.OctetLaws.{bytes-behind, refused, followed, go-on, number-exact}
-use Rattle.places.specs.Sets.{each}
+use Rattle.codec_octets.specs.Octets.{got, Reader, follow, _>>=_, give, octet, octetsOf, number, Bytes}
+use Rattle.codec_octets.proofs.OctetLaws.{bytes-behind, refused, followed, go-on, number-exact}
+use Rattle.cols_spec.specs.Sets.{each}
 use Rattle.imaging.specs.Image.{rows}
 use Rattle.imaging.specs.Reading.{read-many, read-rows}
 

@@ -3,16 +3,16 @@ use mathlib.Core.Path.{_≡_, refl, ap, _∙_}
 use mathlib.Core.List.{List, _++_}
 use Prim.Native.Nat.{ℕ, zero, suc, _<_, _^_}
 use lib.Dec.{leb}
-use Rattle.octets.specs.Octets.{got, give, octet, number, Bytes}
-use Rattle.octets.proofs.OctetLaws.{refused, followed, needed, go-on}
-use Rattle.places.specs.Sets.{all, listed, those, member, links}
+use Rattle.codec_octets.specs.Octets.{got, give, octet, number, Bytes}
+use Rattle.codec_octets.proofs.OctetLaws.{refused, followed, needed, go-on}
+use Rattle.cols_spec.specs.Sets.{all, listed, those, member, links}
 use Rattle.domain.specs.declared.Limits.{Limits}
 use Rattle.domain.specs.Outcomes.{limited}
 use Rattle.domain_laws.specs.Same.{Role, static, user-id, assigned, private-of, Standing, nobody, grabbed, inhibited, giving, given}
 use Rattle.domain_laws.specs.View.{View}
 use Rattle.imaging.specs.Image.{two, user-row, kind-number, club, channel-row, state-number, parties, token-row, limit-octets, link-rows, contents}
 use Rattle.imaging.specs.Reading.{read-rows, read-user, read-club, read-channel, read-parties, read-token, read-limits, upward, read-links, read-contents}
-use Rattle.places.proofs.Bools.{and-parts}
+use Rattle.cols_spec.proofs.Bools.{and-parts}
 use Rattle.imaging.proofs.Links.{listed-upward, listed-low, mask-back, list-back}
 use Rattle.imaging.proofs.Parts.{Code, Rest, rest-last, unknown, rest-part, whole, one-back, one-only, two-back, two-only, number-code, octet-code, All, any-of, rows-code}
 

@@ -9,13 +9,13 @@ use native.Mathlib.Omega.{arith}
 use lib.Dec.{eqb, ltb}
 use lib.ListN.{length, getD, length-append}
 use borrow.Author.Tests.{eq-eqb, eqb-true, eqb-false, lt-ltb}
-use Rattle.places.specs.Places.{At, find, inOrder}
-use Rattle.places.specs.Sets.{if_then_else_, keep, any, each, has, member, listed, below, upto}
-use Rattle.places.proofs.Answers.{found-somewhere}
-use Rattle.places.proofs.Bools.{and-parts, and-both, or-elim}
-use Rattle.places.proofs.Members.{member-keep, member-at}
-use Rattle.places.proofs.Order.{keep-le, in-order-has}
-use Rattle.places.proofs.Rows.{find-holds, find-there}
+use Rattle.cols_spec.specs.Places.{At, find, inOrder}
+use Rattle.cols_spec.specs.Sets.{if_then_else_, keep, any, each, has, member, listed, below, upto}
+use Rattle.cols_spec.proofs.Answers.{found-somewhere}
+use Rattle.cols_spec.proofs.Bools.{and-parts, and-both, or-elim}
+use Rattle.cols_spec.proofs.Members.{member-keep, member-at}
+use Rattle.cols_spec.proofs.Order.{keep-le, in-order-has}
+use Rattle.cols_spec.proofs.Rows.{find-holds, find-there}
 use Rattle.domain.specs.Tables.{Domain, channel}
 use Rattle.domain_laws.specs.Same.{Role, static, user-id, assigned, private-of, role-of, channel-at, Standing, nobody, grabbed, inhibited, giving, given}
 use Rattle.domain_laws.specs.View.{row, view}

@@ -9,10 +9,10 @@ use lib.Dec.{eqb, leb, ltb}
 use lib.ListN.{length, getD, drop}
 use lib.Seq.{take-append-seam, drop-append-seam}
 use borrow.Author.Tests.{eq-eqb, eqb-true, ltb-true, lt-ltb}
-use Rattle.octets.specs.Octets.{Read, got, no, octet, octetsOf, number, Bytes}
-use Rattle.octets.proofs.OctetLaws.{bytes-behind, followed, needed}
-use Rattle.places.specs.Sets.{if_then_else_}
-use Rattle.places.proofs.Bools.{some-is, none≢some}
+use Rattle.codec_octets.specs.Octets.{Read, got, no, octet, octetsOf, number, Bytes}
+use Rattle.codec_octets.proofs.OctetLaws.{bytes-behind, followed, needed}
+use Rattle.cols_spec.specs.Sets.{if_then_else_}
+use Rattle.cols_spec.proofs.Bools.{some-is, none≢some}
 use Rattle.domain.specs.Tables.{Domain, in-range}
 use Rattle.domain.specs.Effects.{settled}
 use Rattle.domain.specs.Good.{Good}

@@ -6,8 +6,8 @@ use mathlib.Core.Bool.{false, So}
 use mathlib.Core.List.{List}
 use mathlib.Core.Option.{Option, none, some}
 use lib.ListN.{length, take, drop}
-use Rattle.octets.specs.Octets.{Bytes}
-use Rattle.places.specs.Sets.{if_then_else_}
+use Rattle.codec_octets.specs.Octets.{Bytes}
+use Rattle.cols_spec.specs.Sets.{if_then_else_}
 use Rattle.domain.specs.Effects.{Settled}
 use Rattle.domain.specs.Tables.{Domain}
 use Rattle.domain.specs.Good.{Good}

@@ -1,7 +1,7 @@
 -- Images worked out: of a fresh domain; of a static channel whose joined connection has no user; the largest; octets that are none; and the replies to them.
 use Prim.Native.Nat.{ℕ, _+_, _-_, _^_}
 use mathlib.Core.List.{List, [], _∷_, _++_, map}
-use Rattle.places.specs.Sets.{below}
+use Rattle.cols_spec.specs.Sets.{below}
 use Rattle.domain.specs.Outcomes.{limited}
 use Rattle.domain_laws.specs.Same.{static, user-id, private-of, inhibited}
 use Rattle.domain_laws.specs.View.{View}

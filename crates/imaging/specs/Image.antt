@@ -4,8 +4,8 @@ use Prim.Native.Nat.{ℕ}
 use mathlib.Core.List.{List, [], _∷_, _++_}
 use lib.Dec.{ltb}
 use lib.ListN.{length, drop}
-use Rattle.octets.specs.Octets.{octetsOf}
-use Rattle.places.specs.Sets.{if_then_else_, each, listed, links}
+use Rattle.codec_octets.specs.Octets.{octetsOf}
+use Rattle.cols_spec.specs.Sets.{if_then_else_, each, listed, links}
 use Rattle.domain.specs.declared.Limits.{Limits}
 use Rattle.domain.specs.Effects.{Settled, settled}
 use Rattle.domain.specs.Tables.{Domain}

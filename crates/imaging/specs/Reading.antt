@@ -5,8 +5,8 @@ use mathlib.Core.List.{List, [], _∷_}
 use mathlib.Core.Option.{Option, none, some}
 use lib.Dec.{eqb, leb}
 use lib.ListN.{length, getD}
-use Rattle.octets.specs.Octets.{Read, got, no, Reader, _>>=_, give, fail, need, octet, number}
-use Rattle.places.specs.Sets.{if_then_else_, all, member, those, links}
+use Rattle.codec_octets.specs.Octets.{Read, got, no, Reader, _>>=_, give, fail, need, octet, number}
+use Rattle.cols_spec.specs.Sets.{if_then_else_, all, member, those, links}
 use Rattle.domain.specs.declared.Limits.{Limits}
 use Rattle.domain.specs.Tables.{in-range}
 use Rattle.domain.specs.Outcomes.{limited}

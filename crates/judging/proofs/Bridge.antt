@@ -4,7 +4,7 @@ use mathlib.Core.List.{List, [], _∷_, _++_, map, map-map, append-nil, append-a
 use Prim.Native.Nat.{ℕ}
 use lib.ListN.{length, take, drop}
 use lib.Seq.{take-append-seam}
-use Rattle.records.specs.Records.{records}
+use Rattle.out_records.specs.Records.{records}
 use Rattle.domain.specs.Tables.{Domain, fresh}
 use Rattle.domain.specs.Events.{Outcome, step}
 use Rattle.domain.specs.Outcomes.{turned, after, limited, begun}

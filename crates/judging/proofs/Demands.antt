@@ -4,11 +4,11 @@ use mathlib.Core.Logic.{_↔_}
 use mathlib.Core.List.{List, [], _∷_}
 use Prim.Native.Nat.{ℕ}
 use native.Mathlib.Omega.{arith}
-use Rattle.octets.specs.Octets.{Bytes}
-use Rattle.messages.specs.Codec.{ok}
-use Rattle.messages.specs.Named.{Message, fields, heard, octets}
-use Rattle.messages.proofs.NamedLaws.{heard-sent, formed-sent}
-use Rattle.records.specs.Records.{Sent, to, wire}
+use Rattle.codec_octets.specs.Octets.{Bytes}
+use Rattle.codec_table.specs.Codec.{ok}
+use Rattle.codec_table.specs.Named.{Message, fields, heard, octets}
+use Rattle.codec_table.proofs.NamedLaws.{heard-sent, formed-sent}
+use Rattle.out_records.specs.Records.{Sent, to, wire}
 use Rattle.domain.specs.Tables.{Domain, fresh, grant, Free-id}
 use Rattle.domain.specs.Events.{Outcome, step}
 use Rattle.domain.specs.Good.{Good}

@@ -7,12 +7,12 @@ use native.Mathlib.Omega.{arith}
 use borrow.Author.Tests.{le-ltb, ltb-true, ltb-false}
 use lib.Dec.{ltb}
 use lib.ListN.{length}
-use Rattle.places.specs.Sets.{if_then_else_}
-use Rattle.messages.specs.Codec.{ok, decode}
-use Rattle.messages.specs.Named.{Message, fields}
-use Rattle.messages.proofs.NamedLaws.{User, heard-read}
-use Rattle.records.specs.Records.{to, wire, records}
-use Rattle.records.proofs.Telling.{sent-length}
+use Rattle.cols_spec.specs.Sets.{if_then_else_}
+use Rattle.codec_table.specs.Codec.{ok, decode}
+use Rattle.codec_table.specs.Named.{Message, fields}
+use Rattle.codec_table.proofs.NamedLaws.{User, heard-read}
+use Rattle.out_records.specs.Records.{to, wire, records}
+use Rattle.out_records.proofs.Telling.{sent-length}
 use Rattle.domain.specs.Tables.{Channels, Domain, between, grant, free-id, Free-id}
 use Rattle.domain.specs.Events.{Outcome, sends, step-with, step}
 use Rattle.domain.specs.Good.{Good}

@@ -7,14 +7,14 @@ use Prim.Native.Nat.{ℕ, _≤_}
 use native.Mathlib.Omega.{arith}
 use lib.Dec.{eqb, ltb}
 use lib.ListN.{length}
-use Rattle.places.specs.Sets.{if_then_else_, has}
-use Rattle.places.specs.Places.{Place, At, Nowhere, find}
-use Rattle.messages.specs.Messages.{entry, row}
-use Rattle.messages.specs.Codec.{octetsOfMsg}
-use Rattle.messages.specs.Named.{Message, EDrq, DPum, RJum, AUrq, AUcf, DUrq, DUin, CJrq, CJcf, CLrq, CCrq, CCcf, CDrq, CDin, CArq, CAin, CErq, CEin}
-use Rattle.messages.specs.Named.{TGrq, TGcf, TIrq, TIcf, TVrq, TVin, TVrs, TVcf, TPrq, TPin, TRrq, TRcf, TTrq, TTcf, fields, formed as formed-message}
-use Rattle.messages.proofs.NamedLaws.{User, Channel, ranges}
-use Rattle.records.specs.Records.{to, wire}
+use Rattle.cols_spec.specs.Sets.{if_then_else_, has}
+use Rattle.cols_spec.specs.Places.{Place, At, Nowhere, find}
+use Rattle.codec_table.specs.Messages.{entry, row}
+use Rattle.codec_table.specs.Codec.{octetsOfMsg}
+use Rattle.codec_table.specs.Named.{Message, EDrq, DPum, RJum, AUrq, AUcf, DUrq, DUin, CJrq, CJcf, CLrq, CCrq, CCcf, CDrq, CDin, CArq, CAin, CErq, CEin}
+use Rattle.codec_table.specs.Named.{TGrq, TGcf, TIrq, TIcf, TVrq, TVin, TVrs, TVcf, TPrq, TPin, TRrq, TRcf, TTrq, TTcf, fields, formed as formed-message}
+use Rattle.codec_table.proofs.NamedLaws.{User, Channel, ranges}
+use Rattle.out_records.specs.Records.{to, wire}
 use Rattle.domain.specs.Cells.{kind}
 use Rattle.domain.specs.Tables.{Users, Channels, Domain, attached, channel, put-channels, put-both}
 use Rattle.domain.specs.Effects.{Effect, ignored, done, from, within}

@@ -9,9 +9,9 @@ use borrow.Author.Tests.{le-leb, leb-true}
 use lib.Dec.{leb}
 use lib.ListN.{length, getD, take, drop, set, length-append, length-set, length-drop, length-take, take-append-drop, List·getD-append}
 use lib.Seq.{length-take-le, take-append-le, drop-append-le, drop-at, getD-take, getD-set-same, getD-set-other, drop-set-lt}
-use Rattle.places.specs.Sets.{if_then_else_, null}
-use Rattle.places.proofs.Bools.{and-parts, none≢some}
-use Rattle.records.specs.Records.{Sent, to, wire, framed, octets, records}
+use Rattle.cols_spec.specs.Sets.{if_then_else_, null}
+use Rattle.cols_spec.proofs.Bools.{and-parts, none≢some}
+use Rattle.out_records.specs.Records.{Sent, to, wire, framed, octets, records}
 use Rattle.domain.specs.Tables.{Domain}
 use Rattle.domain.specs.Events.{Outcome}
 use Rattle.history.specs.Recorded.{size, inside}

@@ -4,7 +4,7 @@ use mathlib.Core.List.{List, [], _∷_, nil≢cons, Perm, Perm·refl, Perm·eq-n
 use mathlib.Core.Option.{Option, none, some}
 use Prim.Native.Nat.{ℕ, suc}
 use native.Mathlib.Omega.{arith}
-use Rattle.places.specs.Sets.{null}
+use Rattle.cols_spec.specs.Sets.{null}
 use Rattle.domain.specs.Tables.{Domain, fresh, Free-id}
 use Rattle.domain.specs.Events.{Outcome}
 use Rattle.domain.specs.Good.{Good}

@@ -9,8 +9,8 @@ use Prim.Native.Nat.{ℕ, suc}
 use lib.Dec.{eqb}
 use lib.ListN.{length}
 use borrow.Author.Tests.{eqb-true, eq-eqb}
-use Rattle.places.specs.Sets.{if_then_else_}
-use Rattle.places.proofs.Bools.{and-parts, and-both, none≢some}
+use Rattle.cols_spec.specs.Sets.{if_then_else_}
+use Rattle.cols_spec.proofs.Bools.{and-parts, and-both, none≢some}
 use Rattle.judging.specs.Traces.{Packet, on}
 use Rattle.judging.specs.Judge.{same-octets, same-packet, in-front, strike}
 

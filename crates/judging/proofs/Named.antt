@@ -5,7 +5,7 @@ use mathlib.Core.Option.{Option, none, some}
 use Prim.Native.Nat.{ℕ, suc, _+_}
 use native.Mathlib.Omega.{arith}
 use lib.ListN.{length}
-use Rattle.places.specs.Sets.{null}
+use Rattle.cols_spec.specs.Sets.{null}
 use Rattle.domain.specs.Tables.{Domain, fresh}
 use Rattle.domain.specs.Good.{Good}
 use Rattle.domain.proofs.invariant.Fresh.{fresh-good}

@@ -8,10 +8,10 @@ use Prim.Native.Nat.{ℕ, zero, suc, _-_, _≤_, _<_}
 use native.Mathlib.Omega.{arith}
 use lib.Dec.{eqb}
 use lib.ListN.{length, take, drop, length-drop}
-use Rattle.places.specs.Sets.{if_then_else_}
-use Rattle.places.proofs.Bools.{none≢some}
-use Rattle.octets.specs.Octets.{Bytes}
-use Rattle.frames.specs.Frames.{Front, over, frame, refused}
+use Rattle.cols_spec.specs.Sets.{if_then_else_}
+use Rattle.cols_spec.proofs.Bools.{none≢some}
+use Rattle.codec_octets.specs.Octets.{Bytes}
+use Rattle.trace_frames.specs.Frames.{Front, over, frame, refused}
 use Rattle.domain.specs.declared.Limits.{Limits}
 use Rattle.domain.specs.Tables.{in-range}
 use Rattle.domain.specs.Outcomes.{limited}

@@ -2,7 +2,7 @@
 use mathlib.Core.Path.{_≡_, refl, ap, subst}
 use mathlib.Core.List.{List, [], _∷_, _++_, map, append-nil, Perm·refl, Perm·eq-nil}
 use Prim.Native.Nat.{ℕ}
-use Rattle.records.specs.Records.{Sent}
+use Rattle.out_records.specs.Records.{Sent}
 use Rattle.domain.specs.Tables.{Domain, fresh, grant}
 use Rattle.domain.specs.Events.{Outcome, step}
 use Rattle.domain.specs.Good.{Good}

@@ -2,7 +2,7 @@
 use mathlib.Core.Path.{refl, ap, _∙_}
 use lib.ListN.{length, drop}
 use lib.Seq.{take-append-seam}
-use Rattle.records.specs.Records.{records}
+use Rattle.out_records.specs.Records.{records}
 use Rattle.domain.specs.Events.{Outcome, step, step-with}
 use Rattle.domain.specs.Outcomes.{turned, after}
 use Rattle.history.specs.Served.{event}

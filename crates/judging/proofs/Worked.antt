@@ -3,7 +3,7 @@ use mathlib.Core.Path.{_≡_, refl}
 use mathlib.Core.List.{List, [], _∷_, _++_}
 use Rattle.domain.proofs.Opened.{opened}
 use Rattle.domain.specs.Outcomes.{limited}
-use Rattle.understanding.specs.Understood.{number-in, read-as, understood}
+use Rattle.serve_read.specs.Understood.{number-in, read-as, understood}
 use Rattle.history.specs.Recorded.{opening}
 use Rattle.history.specs.Served.{event}
 use Rattle.judging.specs.Traces.{on, Frame, came, went}

@@ -5,10 +5,10 @@ use mathlib.Core.Logic.{_↔_}
 use mathlib.Core.Bool.{So}
 use mathlib.Core.List.{List, [], _∷_, _++_, map}
 use lib.ListN.{length}
-use Rattle.octets.specs.Octets.{Bytes}
-use Rattle.messages.specs.Codec.{ok}
-use Rattle.messages.specs.Named.{Message, fields, heard}
-use Rattle.records.specs.Records.{Sent, to, wire}
+use Rattle.codec_octets.specs.Octets.{Bytes}
+use Rattle.codec_table.specs.Codec.{ok}
+use Rattle.codec_table.specs.Named.{Message, fields, heard}
+use Rattle.out_records.specs.Records.{Sent, to, wire}
 use Rattle.domain.specs.declared.Limits.{Limits}
 use Rattle.domain.specs.Tables.{Domain, fresh, in-range, Free-id}
 use Rattle.domain.specs.Events.{step, step-with}

@@ -2,7 +2,7 @@
 use Prim.Native.Nat.{ℕ}
 use mathlib.Core.Path.{_≡_}
 use mathlib.Core.List.{List, [], _∷_, map, Perm}
-use Rattle.records.specs.Records.{Sent, to, wire}
+use Rattle.out_records.specs.Records.{Sent, to, wire}
 use Rattle.domain.specs.declared.Limits.{Limits}
 use Rattle.domain.specs.Tables.{Domain, fresh, Free-id}
 use Rattle.domain.specs.Events.{Outcome, step-with}

@@ -6,8 +6,8 @@ use mathlib.Core.List.{List, [], _∷_}
 use mathlib.Core.Option.{Option, none, some}
 use lib.Dec.{eqb}
 use lib.ListN.{getD}
-use Rattle.places.specs.Sets.{if_then_else_, null}
-use Rattle.messages.specs.Codec.{Msg, Outcome as Read, ok, refuse, decode}
+use Rattle.cols_spec.specs.Sets.{if_then_else_, null}
+use Rattle.codec_table.specs.Codec.{Msg, Outcome as Read, ok, refuse, decode}
 use Rattle.domain.specs.declared.Limits.{Limits}
 use Rattle.domain.specs.Tables.{Channels, Domain, fresh, grant, free-id}
 use Rattle.judging.specs.Traces.{Packet, on, Frame, came, went}

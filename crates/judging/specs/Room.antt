@@ -6,8 +6,8 @@ use mathlib.Core.List.{List, [], _∷_, _++_}
 use mathlib.Core.Option.{Option, none, some}
 use lib.Dec.{eqb, leb}
 use lib.ListN.{length, getD, take, drop, set}
-use Rattle.places.specs.Sets.{if_then_else_, null}
-use Rattle.records.specs.Records.{records}
+use Rattle.cols_spec.specs.Sets.{if_then_else_, null}
+use Rattle.out_records.specs.Records.{records}
 use Rattle.domain.specs.Tables.{Domain}
 use Rattle.history.specs.Recorded.{size, inside}
 use Rattle.judging.specs.Traces.{Packet, on, Frame, came, went}

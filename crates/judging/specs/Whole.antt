@@ -8,9 +8,9 @@ use mathlib.Core.List.{List, []}
 use mathlib.Core.Option.{Option, none, some}
 use lib.Dec.{eqb}
 use lib.ListN.{length, take, drop}
-use Rattle.places.specs.Sets.{if_then_else_}
-use Rattle.octets.specs.Octets.{Bytes}
-use Rattle.frames.specs.Frames.{Front, over, frame, refused}
+use Rattle.cols_spec.specs.Sets.{if_then_else_}
+use Rattle.codec_octets.specs.Octets.{Bytes}
+use Rattle.trace_frames.specs.Frames.{Front, over, frame, refused}
 use Rattle.domain.specs.declared.Limits.{Limits}
 use Rattle.domain.specs.Tables.{in-range}
 use Rattle.domain.specs.Outcomes.{limited}

@@ -3,7 +3,7 @@ use Prim.Native.Nat.{ℕ, _≤_}
 use mathlib.Core.Path.{_≡_}
 use mathlib.Core.List.{List}
 use lib.ListN.{length, take}
-use Rattle.records.specs.Records.{records}
+use Rattle.out_records.specs.Records.{records}
 use Rattle.domain.specs.Tables.{Domain}
 use Rattle.domain.specs.Effects.{Settled}
 use Rattle.domain.specs.Events.{Event, opens, loses, step-with}

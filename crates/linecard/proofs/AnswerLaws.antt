@@ -3,9 +3,9 @@ use mathlib.Core.Path.{_≡_, sym, ap, _∙_}
 use mathlib.Core.Bool.{true, false, false≢true}
 use mathlib.Core.List.{List}
 use Prim.Native.Nat.{ℕ, _+_}
-use Rattle.messages.specs.Codec.{Msg, Outcome, ok, refuse}
-use Rattle.reader.specs.Held.{noMessage, decoded}
-use Rattle.reader.specs.declared.Decoded.{Decoded}
+use Rattle.codec_table.specs.Codec.{Msg, Outcome, ok, refuse}
+use Rattle.codec_read.specs.Held.{noMessage, decoded}
+use Rattle.codec_read.specs.declared.Decoded.{Decoded}
 use Rattle.linecard.specs.Answers.{answerOf}
 
 pub answer-ok : (s : List ℕ) (d : Decoded) (o : Outcome Msg) → d ≡ decoded s o → d .ok ≡ true → d .number ≡ answerOf o

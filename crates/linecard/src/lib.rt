@@ -1,7 +1,7 @@
 // The one question that the line card's C program asks.
-use brief::decode;
+use codec_read_fast::decode;
 ghost use mathlib.Core.Path.{_≡_};
-ghost use Rattle.reader.specs.Reading.{decodeOf};
+ghost use Rattle.codec_read.specs.Reading.{decodeOf};
 ghost use Rattle.linecard.specs.Answers.{answerOf};
 
 // The line card's question: the number of the message, or 64 plus the refusal.

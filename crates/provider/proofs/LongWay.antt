@@ -5,19 +5,19 @@ use mathlib.Core.List.{List}
 use Prim.Native.Nat.{ℕ}
 use lib.Dec.{ltb}
 use lib.ListN.{take}
-use Rattle.places.specs.Sets.{if_then_else_, has}
-use Rattle.brief.specs.Shortly.{few-ids, NoneRead}
+use Rattle.cols_spec.specs.Sets.{if_then_else_, has}
+use Rattle.codec_read_fast.specs.Shortly.{few-ids, NoneRead}
 use Rattle.domain.specs.Numbers.{replyNumber}
 use Rattle.domain.specs.Tables.{Domain, grant}
 use Rattle.domain.specs.Effects.{sends, settle}
 use Rattle.domain.specs.Events.{loses, hears, complaint, act}
 use Rattle.domain.specs.Outcomes.{after}
 use Rattle.domain.proofs.Turning.{open-loses, open-served, open-refused}
-use Rattle.understanding.specs.declared.Understood.{Understood}
-use Rattle.understanding.specs.Understood.{understood}
-use Rattle.understanding.specs.Requests.{listed-request}
-use Rattle.understanding.specs.Readings.{Understands, Requests}
-use Rattle.understanding.proofs.Understanding.{refused-asks, listed-asks}
+use Rattle.serve_read.specs.declared.Understood.{Understood}
+use Rattle.serve_read.specs.Understood.{understood}
+use Rattle.serve_read.specs.Requests.{listed-request}
+use Rattle.serve_read.specs.Readings.{Understands, Requests}
+use Rattle.serve_read.proofs.Understanding.{refused-asks, listed-asks}
 
 module _ (d : Domain) (p : ℕ) (out os : List ℕ) (in-use : not (ltb 15 p || not (has (d .links) p)) ≡ true) (lost : Bool) (none : lost ≡ false → NoneRead few-ids os)
     (u : Understood) (listed : List ℕ) (h : (lost ≡ true → Requests 8 0 0 0 u) × (lost ≡ false → NoneRead few-ids os → Understands os u listed)) where

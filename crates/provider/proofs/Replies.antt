@@ -9,12 +9,12 @@ use native.Mathlib.Omega.{arith}
 use borrow.Author.Tests.{lt-ltb, le-ltb, ltb-true, ltb-false}
 use lib.Dec.{eqb, ltb}
 use lib.ListN.{length}
-use Rattle.places.specs.Sets.{if_then_else_, has, with, links}
-use Rattle.messages.specs.Messages.{may-go-up, is-served}
-use Rattle.messages.specs.Codec.{Msg, Outcome as Read, ok, refuse, sized, decode}
-use Rattle.messages.specs.Named.{Message, named, called, heardAs, heard}
-use Rattle.messages.proofs.Refusals.{refusal, refusals}
-use Rattle.records.specs.Records.{Sent, records}
+use Rattle.cols_spec.specs.Sets.{if_then_else_, has, with, links}
+use Rattle.codec_table.specs.Messages.{may-go-up, is-served}
+use Rattle.codec_table.specs.Codec.{Msg, Outcome as Read, ok, refuse, sized, decode}
+use Rattle.codec_table.specs.Named.{Message, named, called, heardAs, heard}
+use Rattle.codec_table.proofs.Refusals.{refusal, refusals}
+use Rattle.out_records.specs.Records.{Sent, records}
 use Rattle.domain.specs.declared.answer.Answer.{Answer}
 use Rattle.domain.specs.declared.numbers.Reply.{Reply}
 use Rattle.domain.specs.declared.numbers.Reply.the-variants.{Done, Ignored, NotOpen, OpenAlready, WrongLength, BadEncoding, MayNotGoUp, NotServed, TooLong, NoRoom, BadLimit, BadFrame}
@@ -23,9 +23,9 @@ use Rattle.domain.specs.Tables.{Domain, put-links, grant}
 use Rattle.domain.specs.Leaving.{close}
 use Rattle.domain.specs.Effects.{Effect, ignored, done, Settled, answered}
 use Rattle.domain.specs.Events.{Reading, reads, refuses, Event, opens, loses, hears, Outcome, stays, sends, ends, complaint, act, answers, step-with, step}
-use Rattle.understanding.specs.Understood.{number-in, read-as, understood}
-use Rattle.understanding.specs.Readings.{reply-for}
-use Rattle.understanding.proofs.Understanding.{reply-for-is}
+use Rattle.serve_read.specs.Understood.{number-in, read-as, understood}
+use Rattle.serve_read.specs.Readings.{reply-for}
+use Rattle.serve_read.proofs.Understanding.{reply-for-is}
 
 -- ---- events as they come: a message is what is understood of its octets
 abbrev pub Comes : Event → Type 0

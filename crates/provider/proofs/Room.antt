@@ -8,20 +8,20 @@ use native.Mathlib.Omega.{arith}
 use borrow.Author.Tests.{le-ltb}
 use lib.Dec.{eqb, ltb}
 use lib.ListN.{length, take, length-take}
-use Rattle.places.specs.Sets.{if_then_else_, keep, any, null, each, upto, below, member, firsts, once, has, with, links, seats}
-use Rattle.places.specs.Places.{Place, At, Nowhere, find, found, inOrder}
-use Rattle.places.proofs.Order.{keep-le, in-order-length}
-use Rattle.octets.specs.Octets.{Bytes}
-use Rattle.messages.specs.Messages.{entry, row, may-go-up, is-served}
-use Rattle.messages.specs.Codec.{octetsOfMsg, sized, Outcome as Read, ok, refuse}
-use Rattle.messages.specs.Named.{Message, EDrq, DPum, RJum, AUrq, AUcf, DUrq, DUin, CJrq, CJcf, CLrq, CCrq, CCcf, CDrq, CDin, CArq, CAin, CErq, CEin}
-use Rattle.messages.specs.Named.{TGrq, TGcf, TIrq, TIcf, TVrq, TVin, TVrs, TVcf, TPrq, TPin, TRrq, TRcf, TTrq, TTcf}
-use Rattle.messages.specs.Named.{fields, formed, heard}
-use Rattle.messages.proofs.NamedLaws.{ranges, heard-formed}
-use Rattle.records.specs.Records.{Sent, to, tell, wire, records}
-use Rattle.records.proofs.Laying.{ids-length}
-use Rattle.records.proofs.Telling.{records-none, sent-length, told-length}
-use Rattle.records.proofs.Wire.{wire-CAin, wire-CEin}
+use Rattle.cols_spec.specs.Sets.{if_then_else_, keep, any, null, each, upto, below, member, firsts, once, has, with, links, seats}
+use Rattle.cols_spec.specs.Places.{Place, At, Nowhere, find, found, inOrder}
+use Rattle.cols_spec.proofs.Order.{keep-le, in-order-length}
+use Rattle.codec_octets.specs.Octets.{Bytes}
+use Rattle.codec_table.specs.Messages.{entry, row, may-go-up, is-served}
+use Rattle.codec_table.specs.Codec.{octetsOfMsg, sized, Outcome as Read, ok, refuse}
+use Rattle.codec_table.specs.Named.{Message, EDrq, DPum, RJum, AUrq, AUcf, DUrq, DUin, CJrq, CJcf, CLrq, CCrq, CCcf, CDrq, CDin, CArq, CAin, CErq, CEin}
+use Rattle.codec_table.specs.Named.{TGrq, TGcf, TIrq, TIcf, TVrq, TVin, TVrs, TVcf, TPrq, TPin, TRrq, TRcf, TTrq, TTcf}
+use Rattle.codec_table.specs.Named.{fields, formed, heard}
+use Rattle.codec_table.proofs.NamedLaws.{ranges, heard-formed}
+use Rattle.out_records.specs.Records.{Sent, to, tell, wire, records}
+use Rattle.out_records.proofs.Laying.{ids-length}
+use Rattle.out_records.proofs.Telling.{records-none, sent-length, told-length}
+use Rattle.out_records.proofs.Wire.{wire-CAin, wire-CEin}
 use Rattle.domain.specs.declared.channel.Kind.{Kind}
 use Rattle.domain.specs.declared.channel.Kind.the-variants.{Static, User, Private, Assigned}
 use Rattle.domain.specs.declared.token.Holding.{Holding}
@@ -34,10 +34,10 @@ use Rattle.domain.specs.Channels.{attach, may, join-at, join-new, join, joined,
 use Rattle.domain.specs.Passing.{turn, take-token, share-token, drop-token, offer, informed, answer, please, test}
 use Rattle.domain.specs.Leaving.{leave, those-on, detach, close}
 use Rattle.domain.specs.Events.{Reading, reads, refuses, Event, opens, loses, hears, stays, sends, ends, complaint, act, answers, step-with, step, users-full, channels-full, tokens-full}
-use Rattle.farewell.proofs.Rounds.{each-length}
-use Rattle.farewell.proofs.Parts.{farewell-length}
-use Rattle.understanding.specs.Understood.{number-in, read-as, understood}
-use Rattle.refusing.proofs.Rejecting.{rejection-length}
+use Rattle.serve_leave_records.proofs.Rounds.{each-length}
+use Rattle.serve_leave_records.proofs.Parts.{farewell-length}
+use Rattle.serve_read.specs.Understood.{number-in, read-as, understood}
+use Rattle.serve_refuse.proofs.Rejecting.{rejection-length}
 use Rattle.provider.proofs.Replies.{Fair, understood-fair}
 
 -- the records of an effect take no more

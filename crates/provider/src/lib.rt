@@ -4,18 +4,18 @@
 ghost use mathlib.Core.Path.{_≡_};
 ghost use mathlib.Core.Bool.{true, false, not, _||_};
 ghost use lib.Dec.{ltb};
-ghost use Rattle.places.specs.Sets.{if_then_else_, has as hasIn};
-ghost use Rattle.brief.specs.Shortly.{few-ids, NoneRead};
+ghost use Rattle.cols_spec.specs.Sets.{if_then_else_, has as hasIn};
+ghost use Rattle.codec_read_fast.specs.Shortly.{few-ids, NoneRead};
 ghost use Rattle.domain.specs.declared.Limits.{Limits};
 ghost use Rattle.domain.specs.Tables.{domain-of};
 ghost use Rattle.domain.specs.Effects.{answered};
 ghost use Rattle.domain.specs.Events.{loses, hears};
 ghost use Rattle.domain.specs.Outcomes.{after};
-ghost use Rattle.understanding.specs.Understood.{understood};
-ghost use Rattle.understanding.specs.Readings.{Understands, Requests};
+ghost use Rattle.serve_read.specs.Understood.{understood};
+ghost use Rattle.serve_read.specs.Readings.{Understands, Requests};
 use domain::answer::Answer;
 use domain::numbers::Reply;
-use understanding::Understood;
+use serve_read::Understood;
 
 // What a message asks for; a loss asks for what a DPum, 8, does.
 fn hear(lost: bool, octets: &[u8], listed: &mut [u16; 64]) -> Understood
@@ -31,7 +31,7 @@ fn hear(lost: bool, octets: &[u8], listed: &mut [u16; 64]) -> Understood
             count: 0,
         };
     }
-    understanding::understand(octets, listed)
+    serve_read::understand(octets, listed)
 }
 
 // A loss, or a message that is not one of a few ids, on an open connection. One way for both: the list that is lent, and all that works in it,
@@ -62,10 +62,10 @@ fn long_event(
     let mut listed = [0u16; 64];
     let u = hear(lost, octets, &mut listed);
     let reply = u.reply;
-    if states::numbers::reply_number(reply) != 0 {
-        return refusing::refuse(p, reply, octets, out);
+    if domain_state::numbers::reply_number(reply) != 0 {
+        return serve_refuse::refuse(p, reply, octets, out);
     }
-    requests::listed_request(
+    serve_dispatch::listed_request(
         links,
         names,
         homes,
@@ -109,7 +109,7 @@ pub fn lose(
         (now (chairs .entry)) (now (guests .entry)) (now (marks .entry)) (now (keys .entry)) (now (modes .entry)) (now (values .entry))) (loses p) (now (out .entry))) ⌝ }
 {
     let open = *links;
-    if !refusing::is_open(open, p) {
+    if !serve_refuse::is_open(open, p) {
         return Answer {
             reply: Reply::NotOpen,
             sent: 0,
@@ -159,15 +159,15 @@ pub fn message(
         (now (chairs .entry)) (now (guests .entry)) (now (marks .entry)) (now (keys .entry)) (now (modes .entry)) (now (values .entry))) (hears p (understood (now (octets .entry)))) (now (out .entry)) ⌝ }
 {
     let open = *links;
-    if !refusing::is_open(open, p) {
+    if !serve_refuse::is_open(open, p) {
         return Answer {
             reply: Reply::NotOpen,
             sent: 0,
         };
     }
-    let w = brief::tokens::read_token(octets);
+    let w = codec_read_fast::tokens::read_token(octets);
     if w.ok {
-        return passing::request(
+        return serve_tokens::request(
             limits,
             names,
             homes,
@@ -182,9 +182,9 @@ pub fn message(
             out,
         );
     }
-    let q = brief::read_short(octets);
+    let q = codec_read_fast::read_short(octets);
     if q.ok {
-        return requests::brief_request(
+        return serve_dispatch::brief_request(
             limits,
             names,
             homes,

@@ -7,7 +7,7 @@ use native.Mathlib.Numerals.{add-one}
 use native.Mathlib.Omega.{arith}
 use lib.ListN.{length, drop, getD, set, length-append, drop-of-length-le}
 use lib.Seq.{sets, drop-cons}
-use Rattle.octets.specs.Octets.{octetsOf}
+use Rattle.codec_octets.specs.Octets.{octetsOf}
 use Rattle.salvage.specs.Answer.{entry}
 use Rattle.salvage.specs.Steps.{Lays}
 

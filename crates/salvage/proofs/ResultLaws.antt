@@ -6,8 +6,8 @@ use native.Mathlib.Nat.{add-assoc, zero-add, add-zero}
 use native.Mathlib.Omega.{arith}
 use borrow.Author.Tests.{lt-ltb}
 use lib.ListN.{length, length-append}
-use Rattle.octets.specs.Octets.{octetsOf, number, give, follow}
-use Rattle.octets.proofs.OctetLaws.{number-exact}
+use Rattle.codec_octets.specs.Octets.{octetsOf, number, give, follow}
+use Rattle.codec_octets.proofs.OctetLaws.{number-exact}
 use Rattle.salvage.specs.Spans.{Span, kept, cut, spans, joined}
 use Rattle.salvage.specs.Answer.{keptIn, entry, cutsFrom, output, cutList}
 use Rattle.salvage.specs.Claims.{Trace, none, next, Right, starts, entry-read, salvaged-again, result-trace, uncut-exactly, uncut-whole, never-9}

@@ -8,8 +8,8 @@ use native.Mathlib.Omega.{arith}
 use borrow.Author.Tests.{ltb-false, le-ltb}
 use lib.ListN.{length, take, drop, length-append, length-drop, take-append-drop}
 use lib.Seq.{length-take-le, take-at, drop-at}
-use Rattle.frames.specs.Good.{goodSize}
-use Rattle.frames.proofs.Good.{within, least, alone}
+use Rattle.trace_frames.specs.Good.{goodSize}
+use Rattle.trace_frames.proofs.Good.{within, least, alone}
 use Rattle.salvage.specs.Spans.{begins, resumes, until, Span, kept, cut, spans, joined}
 use Rattle.salvage.specs.Claims.{IsFrame, IsCut, Right, all-there, cuts-apart, two-between, kept-good, cut-right, only-these}
 use Rattle.salvage.proofs.SpanLaws.{none-or-some, begins-none, resumes-none, resumes-next, until-here, until-past, until-most, until-some, spans-none, spans-kept, spans-cut}

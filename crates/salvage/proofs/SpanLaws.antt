@@ -10,8 +10,8 @@ use borrow.Author.Tests.{lt-ltb, le-ltb, eq-eqb, ne-eqb}
 use lib.Dec.{ltb}
 use lib.ListN.{length, take, drop, length-drop, drop-of-length-le}
 use lib.Seq.{length-take-le, take-all, drop-cons}
-use Rattle.frames.specs.Good.{goodSize}
-use Rattle.frames.proofs.Good.{within}
+use Rattle.trace_frames.specs.Good.{goodSize}
+use Rattle.trace_frames.proofs.Good.{within}
 use Rattle.salvage.specs.Spans.{begins, resumes, until, kept, cut, octetsIn, first, spansIn, spans}
 
 pub none-or-some : (n : ℕ) → (n ≡ 0) ⊎ (0 < n)

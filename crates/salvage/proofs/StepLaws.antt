@@ -5,8 +5,8 @@ use mathlib.Core.List.{List, [], _∷_, _++_, append-nil}
 use native.Mathlib.Omega.{arith}
 use lib.ListN.{length, take, drop, length-drop}
 use lib.Seq.{length-take-le, drop-drop}
-use Rattle.frames.specs.Good.{goodSize}
-use Rattle.frames.proofs.Good.{within}
+use Rattle.trace_frames.specs.Good.{goodSize}
+use Rattle.trace_frames.proofs.Good.{within}
 use Rattle.salvage.specs.declared.Place.{Place}
 use Rattle.salvage.specs.Spans.{until, Span, kept, cut, octetsIn, first, spans}
 use Rattle.salvage.specs.Answer.{keptIn, entry, cutsFrom, output, cutList}

@@ -5,8 +5,8 @@ use mathlib.Core.Logic.{_↔_, _⊎_}
 use mathlib.Core.Bool.{true, false}
 use mathlib.Core.List.{List, [], _∷_, _++_}
 use lib.ListN.{length}
-use Rattle.frames.specs.Good.{goodSize}
-use Rattle.octets.specs.Octets.{Reader, got, number, give, _>>=_}
+use Rattle.trace_frames.specs.Good.{goodSize}
+use Rattle.codec_octets.specs.Octets.{Reader, got, number, give, _>>=_}
 use Rattle.salvage.specs.Spans.{begins, resumes, Span, kept, cut, spans, joined}
 use Rattle.salvage.specs.Answer.{entry, cutsFrom, output, cutList, salvaged}
 

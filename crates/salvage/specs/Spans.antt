@@ -1,10 +1,10 @@
--- A torn trace in spans: document 02, "Salvage a torn trace". "Good means document 01's frame rules as amended": what `frames` says.
+-- A torn trace in spans: document 02, "Salvage a torn trace". "Good means document 01's frame rules as amended": what `trace_frames` says.
 use Prim.Native.Nat.{ℕ, zero, suc}
 use mathlib.Core.Bool.{Bool, _&&_, _||_, cond}
 use mathlib.Core.List.{List, [], _∷_, _++_}
 use lib.Dec.{ltb, eqb}
 use lib.ListN.{length, take, drop}
-use Rattle.frames.specs.Good.{goodSize}
+use Rattle.trace_frames.specs.Good.{goodSize}
 
 -- a good frame begins here
 unfoldable pub begins : List ℕ → Bool

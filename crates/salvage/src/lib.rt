@@ -3,7 +3,7 @@ ghost use mathlib.Core.Path.{_≡_};
 ghost use Prim.Native.Nat.{_+_, _*_, _≤_, _<_};
 ghost use lib.ListN.{length, drop};
 ghost use lib.Seq.{sets};
-ghost use Rattle.octets.specs.Octets.{octetsOf};
+ghost use Rattle.codec_octets.specs.Octets.{octetsOf};
 ghost use Rattle.salvage.specs.Spans.{resumes as resumesAt, until as untilPlace, first};
 ghost use Rattle.salvage.specs.Answer.{entry, salvaged};
 ghost use Rattle.salvage.specs.Steps.{Lays, Before, Takes, Measures, Passes};
@@ -27,14 +27,14 @@ struct Place {
 pub fn resumes(s: &[u8]) -> bool
     ensures { λ r. ⌜ r ≡ resumesAt (now (s .entry)) ⌝ }
 {
-    let size = frames::good_size(s);
+    let size = trace_frames::good_size(s);
     if size == 0 {
         return false;
     }
     if size == s.len() {
         return true;
     }
-    0 < frames::good_size(&s[size..])
+    0 < trace_frames::good_size(&s[size..])
 }
 
 // How many octets stand before the first such place; all of them where there is none.
@@ -118,7 +118,7 @@ fn step(trace: &[u8], p: Place, out: &mut [u8], list: &mut [u8]) -> Place
     ensures { λ r. ⌜ Takes (now (trace .entry)) (first (drop (p .at) (now (trace .entry)))) p (now (out .entry)) (now (list .entry)) r (now (out .exit)) (now (list .exit)) ⌝ }
 {
     let at = p.at;
-    let size = frames::good_size(&trace[at..]);
+    let size = trace_frames::good_size(&trace[at..]);
     if size == 0 {
         let gap = until(&trace[at..]);
         put_cut(list, p.cuts, at, gap);

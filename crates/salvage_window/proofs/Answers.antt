@@ -7,7 +7,7 @@ use mathlib.Core.List.{List, [], _∷_}
 use native.Mathlib.Omega.{arith}
 use borrow.Author.Tests.{lt-ltb, le-ltb, ne-eqb}
 use lib.ListN.{length, length-drop}
-use Rattle.frames.specs.Good.{longest}
+use Rattle.trace_frames.specs.Good.{longest}
 use Rattle.salvage_window.specs.declared.Turn.{Turn}
 use Rattle.salvage_window.specs.Claims.{turn-within}
 use Rattle.salvage_window.proofs.Turns.{keeps-most}

@@ -8,11 +8,11 @@ use borrow.Author.Tests.{leb-true, ne-eqb}
 use lib.Dec.{leb}
 use lib.ListN.{length, drop, length-append, length-drop}
 use lib.Seq.{getD-drop, drop-append-le}
-use Rattle.frames.specs.Claims.{octets-below-256}
-use Rattle.frames.specs.Good.{goodSize, longest}
-use Rattle.frames.specs.Fault.{faultOf}
-use Rattle.frames.proofs.Good.{within, most, stays-good}
-use Rattle.frames.proofs.Faults.{stays-fault}
+use Rattle.trace_frames.specs.Claims.{octets-below-256}
+use Rattle.trace_frames.specs.Good.{goodSize, longest}
+use Rattle.trace_frames.specs.Fault.{faultOf}
+use Rattle.trace_frames.proofs.Good.{within, most, stays-good}
+use Rattle.trace_frames.proofs.Faults.{stays-fault}
 use Rattle.salvage.specs.Spans.{begins, resumes}
 use Rattle.salvage_window.specs.Windows.{decided}
 

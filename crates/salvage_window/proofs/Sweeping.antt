@@ -9,10 +9,10 @@ use borrow.Author.Tests.{ltb-true, leb-true, eqb-true, lt-ltb, le-ltb, le-leb, e
 use lib.Dec.{leb, ltb, eqb}
 use lib.ListN.{length, take, drop, length-drop, length-append}
 use lib.Seq.{length-take-le, drop-append-le, drop-drop}
-use Rattle.frames.specs.Claims.{octets-below-256}
-use Rattle.frames.specs.Good.{goodSize, longest}
-use Rattle.frames.specs.Fault.{faultOf}
-use Rattle.frames.proofs.Faults.{nothing}
+use Rattle.trace_frames.specs.Claims.{octets-below-256}
+use Rattle.trace_frames.specs.Good.{goodSize, longest}
+use Rattle.trace_frames.specs.Fault.{faultOf}
+use Rattle.trace_frames.proofs.Faults.{nothing}
 use Rattle.salvage.specs.Spans.{until, cut, spans}
 use Rattle.salvage.specs.Answer.{keptIn, entry, cutsFrom, output, cutList}
 use Rattle.salvage.proofs.SpanLaws.{none-or-some, until-here, until-most, until-some, spans-none, spans-cut}

@@ -11,9 +11,9 @@ use borrow.Author.Tests.{ltb-true, lt-ltb, le-ltb}
 use lib.Dec.{ltb}
 use lib.ListN.{length, take, drop, length-drop, drop-of-length-le}
 use lib.Seq.{length-take-le, take-append-le, drop-append-le, take-add, drop-drop, drop-cons}
-use Rattle.frames.specs.Claims.{octets-below-256}
-use Rattle.frames.specs.Good.{goodSize, longest}
-use Rattle.frames.proofs.Good.{within}
+use Rattle.trace_frames.specs.Claims.{octets-below-256}
+use Rattle.trace_frames.specs.Good.{goodSize, longest}
+use Rattle.trace_frames.proofs.Good.{within}
 use Rattle.salvage.specs.Spans.{resumes, until, kept, spans}
 use Rattle.salvage.specs.Answer.{keptIn, cutsFrom}
 use Rattle.salvage.proofs.SpanLaws.{none-or-some, part-is, until-past, spans-kept}

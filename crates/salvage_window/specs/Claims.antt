@@ -6,10 +6,10 @@ use mathlib.Core.Bool.{Bool, true, false, _&&_, not, cond}
 use mathlib.Core.List.{List, [], _++_}
 use lib.Dec.{ltb}
 use lib.ListN.{length, take, drop}
-use Rattle.frames.specs.Claims.{octets-below-256}
-use Rattle.frames.specs.Good.{longest}
-use Rattle.frames.specs.declared.fault.Fault.the-variants.{Nothing}
-use Rattle.frames.specs.Fault.{faultOf}
+use Rattle.trace_frames.specs.Claims.{octets-below-256}
+use Rattle.trace_frames.specs.Good.{longest}
+use Rattle.trace_frames.specs.declared.fault.Fault.the-variants.{Nothing}
+use Rattle.trace_frames.specs.Fault.{faultOf}
 use Rattle.salvage.specs.Answer.{entry, output, cutList}
 use Rattle.salvage_window.specs.declared.Turn.{Turn}
 use Rattle.salvage_window.specs.Windows.{decided, turned}

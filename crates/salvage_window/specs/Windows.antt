@@ -4,7 +4,7 @@ use mathlib.Core.Bool.{Bool, true, false, _&&_, _||_, not, cond}
 use mathlib.Core.List.{List, [], _∷_}
 use lib.Dec.{leb, ltb, eqb}
 use lib.ListN.{length, drop}
-use Rattle.frames.specs.Good.{goodSize, longest}
+use Rattle.trace_frames.specs.Good.{goodSize, longest}
 use Rattle.salvage.specs.Spans.{resumes}
 use Rattle.salvage_window.specs.declared.Turn.{Turn}
 

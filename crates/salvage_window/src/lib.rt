@@ -31,7 +31,7 @@ fn sure(w: &[u8], ended: bool) -> usize
     ensures { λ r. ⌜ r ≡ sureSize ended (now (w .entry)) ⌝ }
 {
     if decided(w.len(), ended, ONE) {
-        return frames::good_size(w);
+        return trace_frames::good_size(w);
     }
     0
 }

@@ -1,8 +1,8 @@
 // What is told on standard error: lines, collected in a buffer that the caller lends.
-use frames::fault::Fault;
 use libc::STDERR_FILENO;
-use streams::lines::say;
-use streams::lines::say_number;
+use trace_frames::fault::Fault;
+use trace_io::lines::say;
+use trace_io::lines::say_number;
 
 // No line is longer.
 const LINE: usize = 128;

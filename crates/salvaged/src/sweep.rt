@@ -1,7 +1,6 @@
 // A trace from a descriptor, salvaged window by window.
 ghost use mathlib.Core.Path.{_≡_};
 ghost use lib.ListN.{length};
-use frames::fault::Fault;
 use libc::STDOUT_FILENO;
 use salvage_window::Stand;
 use salvage_window::Turn;
@@ -9,7 +8,8 @@ use salvage_window::cut_size;
 use salvage_window::lead;
 use salvage_window::plus;
 use salvage_window::turn_over;
-use streams::input::Span;
+use trace_frames::fault::Fault;
+use trace_io::input::Span;
 
 // So many octets decide what is done at a place: two frames.
 const ENOUGH: usize = 131074;
@@ -50,7 +50,7 @@ fn begin() -> Run {
             cutting: false,
             from: 0,
         },
-        span: streams::input::start(),
+        span: trace_io::input::start(),
         fault: Fault::Nothing,
         kept: 0,
         cut: 0,
@@ -94,7 +94,7 @@ fn is_short(span: Span) -> bool {
 
 // Reads once behind the octets that are not passed.
 fn fetch(fd: i32, buf: &mut [u8], run: Run) -> Run {
-    let n = streams::input::to_start(buf, run.span);
+    let n = trace_io::input::to_start(buf, run.span);
     let got = libc::read(fd, &mut buf[n..]);
     if got < 0 {
         return fail(run, Failure::Read);
@@ -153,7 +153,7 @@ fn write_on(out: &mut [u8], os: &[u8], run: Run) -> Run {
     r.held = 0;
     if flush(out, run.held) {
         if os.len() < out.len() {
-            r.held = streams::lines::say(out, 0, os);
+            r.held = trace_io::lines::say(out, 0, os);
             return r;
         }
         if io::write_all(STDOUT_FILENO, os) {
@@ -169,7 +169,7 @@ fn put(out: &mut [u8], os: &[u8], run: Run) -> Run {
     if held <= out.len() {
         if os.len() <= out.len() - held {
             let mut r = run;
-            r.held = streams::lines::say(out, held, os);
+            r.held = trace_io::lines::say(out, held, os);
             return r;
         }
     }
@@ -205,7 +205,7 @@ fn open(window: &[u8], run: Run) -> Run {
     Run {
         stand,
         span,
-        fault: frames::fault::fault_of(window),
+        fault: trace_frames::fault::fault_of(window),
         kept: run.kept,
         cut: run.cut,
         spans: run.spans,

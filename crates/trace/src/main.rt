@@ -1,4 +1,4 @@
 // The trace program: frames from standard input, a line for each on standard output.
 fn main() {
-    tracing::run(tracing::Form::Lines);
+    trace_run::run(trace_run::Form::Lines);
 }

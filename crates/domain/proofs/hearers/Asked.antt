@@ -5,9 +5,9 @@ use mathlib.Core.List.{List, [], _∷_}
 use mathlib.Core.Option.{Option, none, some}
 use Prim.Native.Nat.{ℕ}
 use lib.Dec.{eqb}
-use Rattle.places.specs.Sets.{if_then_else_, member}
-use Rattle.places.proofs.Bools.{or-elim}
-use Rattle.records.specs.Records.{Sent, to}
+use Rattle.cols_spec.specs.Sets.{if_then_else_, member}
+use Rattle.cols_spec.proofs.Bools.{or-elim}
+use Rattle.out_records.specs.Records.{Sent, to}
 use Rattle.domain.specs.History.{History, begins, _▹_}
 use Rattle.domain.specs.Hearers.{Notice, comes, convenes, joins, admits, expels, silent, notice, through, known-as, convening, convened, link-opened, joining, told-joined, admitting, admitted}
 use Rattle.domain.specs.Hearers.{entitled, Hearer, last-convening, last-convened, sent-joined, last-naming, last-admitted, Asked}

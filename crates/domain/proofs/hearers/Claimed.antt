@@ -7,13 +7,13 @@ use Prim.Native.Nat.{ℕ, zero, suc, _<_}
 use native.Mathlib.Omega.{arith}
 use lib.ListN.{getD, replicate}
 use borrow.Author.Tests.{eq-eqb}
-use Rattle.places.specs.Sets.{has, with, all, seats}
-use Rattle.places.specs.Places.{Place, At, Nowhere, find, found, load}
-use Rattle.places.proofs.Bools.{and-parts, none≢some}
-use Rattle.places.proofs.Marks.{has-none, in-with}
-use Rattle.places.proofs.Rows.{find-holds, find-there, in-list, getD-any}
-use Rattle.messages.specs.Named.{Message}
-use Rattle.records.specs.Records.{Sent, to}
+use Rattle.cols_spec.specs.Sets.{has, with, all, seats}
+use Rattle.cols_spec.specs.Places.{Place, At, Nowhere, find, found, load}
+use Rattle.cols_spec.proofs.Bools.{and-parts, none≢some}
+use Rattle.cols_spec.proofs.Marks.{has-none, in-with}
+use Rattle.cols_spec.proofs.Rows.{find-holds, find-there, in-list, getD-any}
+use Rattle.codec_table.specs.Named.{Message}
+use Rattle.out_records.specs.Records.{Sent, to}
 use Rattle.domain.specs.declared.Limits.{Limits}
 use Rattle.domain.specs.declared.channel.Kind.{Kind}
 use Rattle.domain.specs.declared.channel.Kind.the-variants.{Static, User, Private, Assigned}

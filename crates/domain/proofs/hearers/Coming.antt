@@ -8,14 +8,14 @@ use native.Mathlib.Omega.{arith}
 use lib.Dec.{eqb}
 use lib.ListN.{length, getD}
 use borrow.Author.Tests.{eq-eqb, ne-eqb, eqb-true, leb-false}
-use Rattle.places.specs.Sets.{if_then_else_, all, has, with, links}
-use Rattle.places.specs.Places.{At, used, spare, store}
-use Rattle.places.proofs.Marks.{Marks}
-use Rattle.places.proofs.Rows.{at-set}
-use Rattle.places.proofs.Table.{new-place}
-use Rattle.messages.specs.Named.{AUcf, successful, too-many-channels, too-many-users}
-use Rattle.messages.specs.Named.{Message}
-use Rattle.records.specs.Records.{to}
+use Rattle.cols_spec.specs.Sets.{if_then_else_, all, has, with, links}
+use Rattle.cols_spec.specs.Places.{At, used, spare, store}
+use Rattle.cols_spec.proofs.Marks.{Marks}
+use Rattle.cols_spec.proofs.Rows.{at-set}
+use Rattle.cols_spec.proofs.Table.{new-place}
+use Rattle.codec_table.specs.Named.{AUcf, successful, too-many-channels, too-many-users}
+use Rattle.codec_table.specs.Named.{Message}
+use Rattle.out_records.specs.Records.{to}
 use Rattle.domain.specs.declared.channel.Kind.{Kind}
 use Rattle.domain.specs.declared.channel.Kind.the-variants.{Static, User, Private, Assigned}
 use Rattle.domain.specs.Cells.{no-channel, kind, channel-of}

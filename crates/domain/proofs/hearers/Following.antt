@@ -5,10 +5,10 @@ use mathlib.Core.List.{[]}
 use Prim.Native.Nat.{ℕ, _≤_}
 use lib.Dec.{ltb}
 use lib.ListN.{length, getD}
-use Rattle.places.specs.Sets.{if_then_else_, has, with, all, links}
-use Rattle.messages.specs.Named.{Message, EDrq, DPum, RJum, AUrq, AUcf, DUrq, DUin, CJrq, CJcf, CLrq, CCrq, CCcf, CDrq, CDin, CArq, CAin, CErq, CEin}
-use Rattle.messages.specs.Named.{TGrq, TGcf, TIrq, TIcf, TVrq, TVin, TVrs, TVcf, TPrq, TPin, TRrq, TRcf, TTrq, TTcf}
-use Rattle.records.specs.Records.{records}
+use Rattle.cols_spec.specs.Sets.{if_then_else_, has, with, all, links}
+use Rattle.codec_table.specs.Named.{Message, EDrq, DPum, RJum, AUrq, AUcf, DUrq, DUin, CJrq, CJcf, CLrq, CCrq, CCcf, CDrq, CDin, CArq, CAin, CErq, CEin}
+use Rattle.codec_table.specs.Named.{TGrq, TGcf, TIrq, TIcf, TVrq, TVin, TVrs, TVcf, TPrq, TPin, TRrq, TRcf, TTrq, TTcf}
+use Rattle.out_records.specs.Records.{records}
 use Rattle.domain.specs.Tables.{Domain, put-links, Free-id}
 use Rattle.domain.specs.Leaving.{close}
 use Rattle.domain.specs.Events.{tokens-full, Event, opens, loses, hears, Reading, reads, refuses, act, ends, sends, stays, answers, complaint, step-with}

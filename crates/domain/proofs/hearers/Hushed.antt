@@ -3,9 +3,9 @@ use mathlib.Core.Path.{_≡_, refl}
 use mathlib.Core.Bool.{Bool, true, false}
 use mathlib.Core.List.{List, [], _∷_}
 use Prim.Native.Nat.{ℕ}
-use Rattle.places.specs.Sets.{all}
-use Rattle.messages.specs.Named.{Message}
-use Rattle.records.specs.Records.{to, tell}
+use Rattle.cols_spec.specs.Sets.{all}
+use Rattle.codec_table.specs.Named.{Message}
+use Rattle.out_records.specs.Records.{to, tell}
 use Rattle.domain.specs.Tables.{Users, Tokens, Domain, put-tokens}
 use Rattle.domain.specs.Effects.{Effect, ignored, done, within}
 use Rattle.domain.specs.Passing.{take-token, share-token, drop-token, offer, answer, please, test}

@@ -8,14 +8,14 @@ use native.Mathlib.Omega.{arith}
 use lib.Dec.{eqb, ltb}
 use lib.ListN.{length, getD}
 use borrow.Author.Tests.{eq-eqb, ne-eqb, eqb-true, eqb-false, ltb-false}
-use Rattle.places.specs.Sets.{if_then_else_, any, all, member, has, with, without, only, links, seats}
-use Rattle.places.specs.Places.{Place, At, Nowhere, find}
-use Rattle.places.proofs.Bools.{none≢some, some-is}
-use Rattle.places.proofs.Marks.{has-none, in-with, in-without}
-use Rattle.places.proofs.Rows.{find-holds, find-none}
-use Rattle.places.proofs.Table.{table-set, table-clear}
-use Rattle.messages.specs.Named.{Message, CJcf, CCcf, CDin, successful, no-such-channel, too-many-channels}
-use Rattle.records.specs.Records.{Sent, to, tell}
+use Rattle.cols_spec.specs.Sets.{if_then_else_, any, all, member, has, with, without, only, links, seats}
+use Rattle.cols_spec.specs.Places.{Place, At, Nowhere, find}
+use Rattle.cols_spec.proofs.Bools.{none≢some, some-is}
+use Rattle.cols_spec.proofs.Marks.{has-none, in-with, in-without}
+use Rattle.cols_spec.proofs.Rows.{find-holds, find-none}
+use Rattle.cols_spec.proofs.Table.{table-set, table-clear}
+use Rattle.codec_table.specs.Named.{Message, CJcf, CCcf, CDin, successful, no-such-channel, too-many-channels}
+use Rattle.out_records.specs.Records.{Sent, to, tell}
 use Rattle.domain.specs.declared.channel.Kind.{Kind}
 use Rattle.domain.specs.declared.channel.Kind.the-variants.{Static, User, Private, Assigned}
 use Rattle.domain.specs.declared.channel.Channel.{Channel}

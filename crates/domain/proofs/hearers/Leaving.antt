@@ -6,13 +6,13 @@ use mathlib.Core.Option.{none, some}
 use Prim.Native.Nat.{ℕ}
 use native.Mathlib.Omega.{arith}
 use lib.ListN.{getD}
-use Rattle.places.specs.Sets.{if_then_else_, null, all, once, has, with, without, minus, meet, links, seats}
-use Rattle.places.specs.Places.{Place, At, Nowhere, find, inOrder, turns-to}
-use Rattle.places.proofs.Bools.{none≢some, some-is}
-use Rattle.places.proofs.Digits.{has-those}
-use Rattle.places.proofs.Marks.{in-meet}
-use Rattle.places.proofs.Table.{swept-same, sweep-used}
-use Rattle.records.specs.Records.{Sent}
+use Rattle.cols_spec.specs.Sets.{if_then_else_, null, all, once, has, with, without, minus, meet, links, seats}
+use Rattle.cols_spec.specs.Places.{Place, At, Nowhere, find, inOrder, turns-to}
+use Rattle.cols_spec.proofs.Bools.{none≢some, some-is}
+use Rattle.cols_spec.proofs.Digits.{has-those}
+use Rattle.cols_spec.proofs.Marks.{in-meet}
+use Rattle.cols_spec.proofs.Table.{swept-same, sweep-used}
+use Rattle.out_records.specs.Records.{Sent}
 use Rattle.domain.specs.declared.channel.Kind.{Kind}
 use Rattle.domain.specs.declared.channel.Kind.the-variants.{Static, User, Private, Assigned}
 use Rattle.domain.specs.declared.channel.Channel.{Channel}

@@ -8,13 +8,13 @@ use native.Mathlib.Omega.{arith}
 use lib.Dec.{eqb}
 use lib.ListN.{length, getD}
 use borrow.Author.Tests.{eq-eqb, ne-eqb}
-use Rattle.places.specs.Sets.{if_then_else_, null, has, with, minus, meet, union, member, links, seats}
-use Rattle.places.specs.Places.{At, find}
-use Rattle.places.proofs.Digits.{has-those}
-use Rattle.places.proofs.Marks.{has-low, in-meet}
-use Rattle.places.proofs.Rows.{find-holds, find-there, in-list, getD-any}
-use Rattle.places.proofs.Table.{table-set}
-use Rattle.messages.specs.Named.{Message, CAin, CEin}
+use Rattle.cols_spec.specs.Sets.{if_then_else_, null, has, with, minus, meet, union, member, links, seats}
+use Rattle.cols_spec.specs.Places.{At, find}
+use Rattle.cols_spec.proofs.Digits.{has-those}
+use Rattle.cols_spec.proofs.Marks.{has-low, in-meet}
+use Rattle.cols_spec.proofs.Rows.{find-holds, find-there, in-list, getD-any}
+use Rattle.cols_spec.proofs.Table.{table-set}
+use Rattle.codec_table.specs.Named.{Message, CAin, CEin}
 use Rattle.domain.specs.declared.channel.Kind.{Kind}
 use Rattle.domain.specs.declared.channel.Kind.the-variants.{Private}
 use Rattle.domain.specs.declared.channel.Channel.{Channel}

@@ -6,13 +6,13 @@ use mathlib.Core.List.{List, [], _∷_, _++_}
 use Prim.Native.Nat.{ℕ, _<_}
 use lib.Dec.{eqb}
 use borrow.Author.Tests.{eq-eqb}
-use Rattle.places.specs.Sets.{if_then_else_, any, all, each, keep, null, below, member, links}
-use Rattle.places.specs.Places.{At, Nowhere, find, found}
-use Rattle.places.proofs.Bools.{and-parts}
-use Rattle.places.proofs.Below.{any-same, any-hit, any-none}
-use Rattle.places.proofs.Members.{member-keep}
-use Rattle.messages.specs.Named.{Message}
-use Rattle.records.specs.Records.{Sent, to}
+use Rattle.cols_spec.specs.Sets.{if_then_else_, any, all, each, keep, null, below, member, links}
+use Rattle.cols_spec.specs.Places.{At, Nowhere, find, found}
+use Rattle.cols_spec.proofs.Bools.{and-parts}
+use Rattle.cols_spec.proofs.Below.{any-same, any-hit, any-none}
+use Rattle.cols_spec.proofs.Members.{member-keep}
+use Rattle.codec_table.specs.Named.{Message}
+use Rattle.out_records.specs.Records.{Sent, to}
 use Rattle.domain.specs.Tables.{Users, link, attached}
 use Rattle.domain.specs.Channels.{own}
 use Rattle.domain.specs.History.{Entry, History, _▹_}

@@ -7,9 +7,9 @@ use mathlib.Core.Option.{none, some}
 use Prim.Native.Nat.{ℕ, _≤_, _<_}
 use lib.Dec.{eqb, ltb}
 use lib.ListN.{length, getD}
-use Rattle.places.specs.Sets.{if_then_else_, has, all}
-use Rattle.places.specs.Places.{At, find}
-use Rattle.records.specs.Records.{Sent, records}
+use Rattle.cols_spec.specs.Sets.{if_then_else_, has, all}
+use Rattle.cols_spec.specs.Places.{At, find}
+use Rattle.out_records.specs.Records.{Sent, records}
 use Rattle.domain.specs.declared.channel.Kind.{Kind}
 use Rattle.domain.specs.declared.channel.Kind.the-variants.{Static, User, Private, Assigned}
 use Rattle.domain.specs.declared.channel.Channel.{Channel}

@@ -8,10 +8,10 @@ use native.Mathlib.Nat.{lt-of-lt-of-le}
 use lib.Dec.{eqb, ltb}
 use lib.ListN.{length}
 use borrow.Author.Tests.{ne-eqb, eqb-true}
-use Rattle.places.specs.Places.{Place, At, Nowhere, find}
-use Rattle.places.specs.Sets.{if_then_else_, has, all}
-use Rattle.records.specs.Records.{Sent, records}
-use Rattle.places.proofs.Rows.{At≢Nowhere, find-holds, same-place}
+use Rattle.cols_spec.specs.Places.{Place, At, Nowhere, find}
+use Rattle.cols_spec.specs.Sets.{if_then_else_, has, all}
+use Rattle.out_records.specs.Records.{Sent, records}
+use Rattle.cols_spec.proofs.Rows.{At≢Nowhere, find-holds, same-place}
 use Rattle.domain.specs.Tables.{Users, Tokens, Domain, link, state}
 use Rattle.domain.specs.declared.token.Holding.{Holding}
 use Rattle.domain.specs.declared.token.Holding.the-variants.{Free, Grabbed, Inhibited, Giving, Given}

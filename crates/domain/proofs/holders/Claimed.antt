@@ -8,13 +8,13 @@ use native.Mathlib.Omega.{arith}
 use lib.Dec.{eqb}
 use lib.ListN.{getD}
 use borrow.Author.Tests.{eq-eqb, eqb-true, eqb-false}
-use Rattle.places.specs.Places.{Place, At, Nowhere, find, used, load}
-use Rattle.places.specs.Sets.{if_then_else_, has, any, keep, below, member}
-use Rattle.places.proofs.Below.{any-hit, any-none, Search, hit, miss, seek-first}
-use Rattle.places.proofs.Digits.{mask-ext}
-use Rattle.places.proofs.Marks.{has-none}
-use Rattle.places.proofs.Rows.{find-none, find-holds}
-use Rattle.places.proofs.Members.{member-at, member-where}
+use Rattle.cols_spec.specs.Places.{Place, At, Nowhere, find, used, load}
+use Rattle.cols_spec.specs.Sets.{if_then_else_, has, any, keep, below, member}
+use Rattle.cols_spec.proofs.Below.{any-hit, any-none, Search, hit, miss, seek-first}
+use Rattle.cols_spec.proofs.Digits.{mask-ext}
+use Rattle.cols_spec.proofs.Marks.{has-none}
+use Rattle.cols_spec.proofs.Rows.{find-none, find-holds}
+use Rattle.cols_spec.proofs.Members.{member-at, member-where}
 use Rattle.domain.specs.Tables.{Users, Domain, name, state, is-free}
 use Rattle.domain.specs.declared.token.Holding.{Holding}
 use Rattle.domain.specs.declared.token.Holding.the-variants.{Free, Grabbed, Inhibited, Giving, Given}

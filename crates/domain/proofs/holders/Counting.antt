@@ -8,9 +8,9 @@ use native.Mathlib.Omega.{arith}
 use lib.Dec.{eqb, ltb}
 use lib.ListN.{length}
 use borrow.Author.Tests.{eq-eqb, ne-eqb, eqb-true, eqb-false, lt-ltb}
-use Rattle.places.specs.Sets.{if_then_else_, keep, any, upto, member}
-use Rattle.places.specs.Places.{used, distinct}
-use Rattle.places.proofs.Places.{distinct-head, distinct-tail}
+use Rattle.cols_spec.specs.Sets.{if_then_else_, keep, any, upto, member}
+use Rattle.cols_spec.specs.Places.{used, distinct}
+use Rattle.cols_spec.proofs.Places.{distinct-head, distinct-tail}
 
 -- how many below n pass
 unfoldable pub count-to : (ℕ → Bool) → ℕ → ℕ

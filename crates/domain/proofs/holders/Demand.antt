@@ -7,9 +7,9 @@ use native.Mathlib.Omega.{arith}
 use lib.Dec.{leb, ltb}
 use lib.ListN.{replicate}
 use borrow.Author.Tests.{ne-eqb}
-use Rattle.places.specs.Places.{Nowhere, first, find}
-use Rattle.places.specs.Sets.{has, all}
-use Rattle.messages.specs.Named.{TGrq, TGcf, TIrq, TIcf}
+use Rattle.cols_spec.specs.Places.{Nowhere, first, find}
+use Rattle.cols_spec.specs.Sets.{has, all}
+use Rattle.codec_table.specs.Named.{TGrq, TGcf, TIrq, TIcf}
 use Rattle.domain.specs.declared.Limits.{Limits}
 use Rattle.domain.specs.Tables.{Domain, fresh, state, grant, in-range}
 use Rattle.domain.specs.Events.{tokens-full, hears, reads, act, answers, step, step-with}

@@ -7,14 +7,14 @@ use Prim.Native.Nat.{ℕ, _<_}
 use native.Mathlib.Omega.{arith}
 use lib.Dec.{eqb}
 use borrow.Author.Tests.{ne-eqb}
-use Rattle.places.specs.Places.{Place, At, Nowhere, find, inOrder}
-use Rattle.places.specs.Sets.{if_then_else_, has, minus, seats, links, without, all, any, null, member, once}
-use Rattle.messages.specs.Named.{DUrq}
-use Rattle.records.specs.Records.{Sent}
-use Rattle.places.proofs.Digits.{has-those, eqb-sym}
-use Rattle.places.proofs.Rows.{find-holds}
-use Rattle.places.proofs.Members.{member-at, member-once}
-use Rattle.places.proofs.Order.{in-order-has}
+use Rattle.cols_spec.specs.Places.{Place, At, Nowhere, find, inOrder}
+use Rattle.cols_spec.specs.Sets.{if_then_else_, has, minus, seats, links, without, all, any, null, member, once}
+use Rattle.codec_table.specs.Named.{DUrq}
+use Rattle.out_records.specs.Records.{Sent}
+use Rattle.cols_spec.proofs.Digits.{has-those, eqb-sym}
+use Rattle.cols_spec.proofs.Rows.{find-holds}
+use Rattle.cols_spec.proofs.Members.{member-at, member-once}
+use Rattle.cols_spec.proofs.Order.{in-order-has}
 use Rattle.domain.specs.Tables.{Domain, link, state, sweep-tokens, remove-users}
 use Rattle.domain.specs.declared.token.Holding.{Holding}
 use Rattle.domain.specs.declared.token.Holding.the-variants.{Free, Grabbed, Inhibited, Giving, Given}

@@ -6,11 +6,11 @@ use Prim.Native.Nat.{ℕ, _<_}
 use native.Mathlib.Omega.{arith}
 use lib.Dec.{ltb}
 use lib.ListN.{length, getD}
-use Rattle.places.specs.Sets.{if_then_else_, has, with, all, links}
-use Rattle.messages.specs.Named.{Message, EDrq, DPum, RJum, AUrq, AUcf, DUrq, DUin, CJrq, CJcf, CLrq, CCrq, CCcf, CDrq, CDin, CArq, CAin, CErq, CEin}
-use Rattle.messages.specs.Named.{TGrq, TGcf, TIrq, TIcf, TVrq, TVin, TVrs, TVcf, TPrq, TPin, TRrq, TRcf, TTrq, TTcf, formed as formed-message}
-use Rattle.messages.proofs.NamedLaws.{ranges}
-use Rattle.records.specs.Records.{records}
+use Rattle.cols_spec.specs.Sets.{if_then_else_, has, with, all, links}
+use Rattle.codec_table.specs.Named.{Message, EDrq, DPum, RJum, AUrq, AUcf, DUrq, DUin, CJrq, CJcf, CLrq, CCrq, CCcf, CDrq, CDin, CArq, CAin, CErq, CEin}
+use Rattle.codec_table.specs.Named.{TGrq, TGcf, TIrq, TIcf, TVrq, TVin, TVrs, TVcf, TPrq, TPin, TRrq, TRcf, TTrq, TTcf, formed as formed-message}
+use Rattle.codec_table.proofs.NamedLaws.{ranges}
+use Rattle.out_records.specs.Records.{records}
 use Rattle.domain.specs.Tables.{Domain, state, hosts, put-links, put-tokens, Free-id}
 use Rattle.domain.specs.Events.{channels-full, Event, opens, loses, hears, reads, refuses, act, ends, sends, stays, answers, complaint, step-with}
 use Rattle.domain.specs.Tokens.{party}

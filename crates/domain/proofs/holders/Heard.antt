@@ -6,9 +6,9 @@ use mathlib.Core.Option.{Option, none, some}
 use Prim.Native.Nat.{ℕ}
 use lib.Dec.{eqb}
 use borrow.Author.Tests.{eqb-true}
-use Rattle.places.specs.Sets.{if_then_else_, any, all, member}
-use Rattle.records.specs.Records.{Sent, to}
-use Rattle.places.proofs.Bools.{and-parts}
+use Rattle.cols_spec.specs.Sets.{if_then_else_, any, all, member}
+use Rattle.out_records.specs.Records.{Sent, to}
+use Rattle.cols_spec.proofs.Bools.{and-parts}
 use Rattle.domain.specs.History.{Entry, History, _▹_, Word, attaches, detaches, closes, grabs, inhibits, yields, offers, accepts, declines, full, other, code, unread}
 use Rattle.domain.specs.History.{reading, asks, link-of, same, is, told, said, closed, leaves, arrives, home, open-offer, gain, Gain, nothing, by-grab, by-inhibit}
 use Rattle.domain.specs.History.{by-offer}

@@ -8,11 +8,11 @@ use lib.Dec.{eqb}
 use lib.ListN.{length, getD}
 use lib.Seq.{set-getD}
 use borrow.Author.Tests.{eqb-true, leb-false}
-use Rattle.places.specs.Places.{Place, At, Nowhere, find, found, seat, spare, distinct, used, store, load, turns-to}
-use Rattle.places.specs.Sets.{if_then_else_, has}
-use Rattle.places.proofs.Rows.{find-holds, find-none, find-there, getD-any, sweep-sizes}
-use Rattle.places.proofs.Table.{Table, sweep-used}
-use Rattle.places.proofs.Found.{load-added, load-put, load-cleared, load-swept, find-still, find-kept, find-freed}
+use Rattle.cols_spec.specs.Places.{Place, At, Nowhere, find, found, seat, spare, distinct, used, store, load, turns-to}
+use Rattle.cols_spec.specs.Sets.{if_then_else_, has}
+use Rattle.cols_spec.proofs.Rows.{find-holds, find-none, find-there, getD-any, sweep-sizes}
+use Rattle.cols_spec.proofs.Table.{Table, sweep-used}
+use Rattle.cols_spec.proofs.Found.{load-added, load-put, load-cleared, load-swept, find-still, find-kept, find-freed}
 use Rattle.domain.specs.declared.token.Holding.{Holding}
 use Rattle.domain.specs.declared.token.Holding.the-variants.{Free}
 use Rattle.domain.specs.declared.token.Token.{Token}

@@ -9,13 +9,13 @@ use lib.Dec.{eqb, leb}
 use lib.ListN.{getD}
 use lib.Seq.{getD-set-same, getD-set-other}
 use borrow.Author.Tests.{ne-eqb, eqb-true, leb-false}
-use Rattle.places.specs.Places.{Place, At, Nowhere, find, spare, used, store}
-use Rattle.places.specs.Sets.{if_then_else_, has, all, any, member}
-use Rattle.messages.specs.Named.{AUrq, AUcf, successful, too-many-users, too-many-channels}
-use Rattle.records.specs.Records.{to}
-use Rattle.places.proofs.Marks.{Marks}
-use Rattle.places.proofs.Rows.{find-gone, spare-there, first-holds, find-holds}
-use Rattle.places.proofs.Found.{find-added}
+use Rattle.cols_spec.specs.Places.{Place, At, Nowhere, find, spare, used, store}
+use Rattle.cols_spec.specs.Sets.{if_then_else_, has, all, any, member}
+use Rattle.codec_table.specs.Named.{AUrq, AUcf, successful, too-many-users, too-many-channels}
+use Rattle.out_records.specs.Records.{to}
+use Rattle.cols_spec.proofs.Marks.{Marks}
+use Rattle.cols_spec.proofs.Rows.{find-gone, spare-there, first-holds, find-holds}
+use Rattle.cols_spec.proofs.Found.{find-added}
 use Rattle.domain.specs.Tables.{Users, Channels, Domain, link, state, add-user, add-channel, put-both, at-limit}
 use Rattle.domain.specs.declared.channel.Kind.the-variants.{User}
 use Rattle.domain.specs.declared.token.Holding.{Holding}

@@ -7,11 +7,11 @@ use Prim.Native.Nat.{ℕ, _≤_}
 use native.Mathlib.Omega.{arith}
 use lib.Dec.{eqb}
 use borrow.Author.Tests.{eq-eqb, eqb-true}
-use Rattle.places.specs.Places.{Place, At, Nowhere, find}
-use Rattle.places.specs.Sets.{if_then_else_, all, any, member}
-use Rattle.messages.specs.Named.{Message, TVrq, TVrs, TVcf, TVin, successful, no-such-user, token-not-possessed}
-use Rattle.records.specs.Records.{Sent, to}
-use Rattle.places.proofs.Bools.{none≢some}
+use Rattle.cols_spec.specs.Places.{Place, At, Nowhere, find}
+use Rattle.cols_spec.specs.Sets.{if_then_else_, all, any, member}
+use Rattle.codec_table.specs.Named.{Message, TVrq, TVrs, TVcf, TVin, successful, no-such-user, token-not-possessed}
+use Rattle.out_records.specs.Records.{Sent, to}
+use Rattle.cols_spec.proofs.Bools.{none≢some}
 use Rattle.domain.specs.declared.token.Holding.{Holding}
 use Rattle.domain.specs.declared.token.Holding.the-variants.{Free, Grabbed, Inhibited, Giving, Given}
 use Rattle.domain.specs.Tables.{Tokens, Domain, name, link, state, is-free, set-token, put-tokens}

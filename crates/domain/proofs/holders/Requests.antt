@@ -7,11 +7,11 @@ use Prim.Native.Nat.{ℕ, zero, suc, _<_, _≤_, zero-le}
 use native.Mathlib.Omega.{arith}
 use lib.Dec.{eqb, eqb·suc-zero}
 use borrow.Author.Tests.{eqb-true}
-use Rattle.places.specs.Places.{At, find}
-use Rattle.places.specs.Sets.{if_then_else_, has, without, only, seats, all, any, member}
-use Rattle.messages.specs.Named.{Message, TGrq, TGcf, TIrq, TIcf, TRrq, TRcf, token-not-available, token-not-possessed, too-many-tokens}
-use Rattle.records.specs.Records.{to}
-use Rattle.places.proofs.Digits.{has-high, has-with, has-only, has-without}
+use Rattle.cols_spec.specs.Places.{At, find}
+use Rattle.cols_spec.specs.Sets.{if_then_else_, has, without, only, seats, all, any, member}
+use Rattle.codec_table.specs.Named.{Message, TGrq, TGcf, TIrq, TIcf, TRrq, TRcf, token-not-available, token-not-possessed, too-many-tokens}
+use Rattle.out_records.specs.Records.{to}
+use Rattle.cols_spec.proofs.Digits.{has-high, has-with, has-only, has-without}
 use Rattle.domain.specs.declared.token.Holding.{Holding}
 use Rattle.domain.specs.declared.token.Holding.the-variants.{Free, Grabbed, Inhibited, Giving, Given}
 use Rattle.domain.specs.Tables.{Domain, state, set-token, put-tokens}

@@ -4,10 +4,10 @@ use mathlib.Core.Bool.{Bool, true, false}
 use mathlib.Core.List.{List, [], _∷_}
 use Prim.Native.Nat.{ℕ, zero, suc}
 use lib.Dec.{eqb, ltb}
-use Rattle.places.specs.Places.{Place, At, Nowhere, find}
-use Rattle.places.specs.Sets.{if_then_else_, all, null, any}
-use Rattle.messages.specs.Named.{Message, CDin, CAin, CEin}
-use Rattle.records.specs.Records.{Sent, to, tell}
+use Rattle.cols_spec.specs.Places.{Place, At, Nowhere, find}
+use Rattle.cols_spec.specs.Sets.{if_then_else_, all, null, any}
+use Rattle.codec_table.specs.Named.{Message, CDin, CAin, CEin}
+use Rattle.out_records.specs.Records.{Sent, to, tell}
 use Rattle.domain.specs.Tables.{Users, Channels, Domain, put-channels, channel}
 use Rattle.domain.specs.declared.channel.Kind.{Kind}
 use Rattle.domain.specs.declared.channel.Kind.the-variants.{Static, User, Private, Assigned}

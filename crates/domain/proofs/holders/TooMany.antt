@@ -8,11 +8,11 @@ use native.Mathlib.Omega.{arith}
 use lib.Dec.{eqb, leb, ltb}
 use lib.ListN.{length}
 use borrow.Author.Tests.{eq-eqb, eqb-true}
-use Rattle.places.specs.Places.{Place, At, Nowhere, find}
-use Rattle.places.specs.Sets.{if_then_else_, any, member, only, seats}
-use Rattle.messages.specs.Named.{Message, successful, token-not-available, too-many-tokens}
-use Rattle.records.specs.Records.{Sent, to, records}
-use Rattle.places.proofs.Bools.{none≢some}
+use Rattle.cols_spec.specs.Places.{Place, At, Nowhere, find}
+use Rattle.cols_spec.specs.Sets.{if_then_else_, any, member, only, seats}
+use Rattle.codec_table.specs.Named.{Message, successful, token-not-available, too-many-tokens}
+use Rattle.out_records.specs.Records.{Sent, to, records}
+use Rattle.cols_spec.proofs.Bools.{none≢some}
 use Rattle.domain.specs.declared.token.Holding.{Holding}
 use Rattle.domain.specs.declared.token.Holding.the-variants.{Free, Grabbed, Inhibited, Giving, Given}
 use Rattle.domain.specs.Tables.{Tokens, Domain, link, attached, state, is-free, put-tokens, set-token, at-limit}

@@ -7,13 +7,13 @@ use Prim.Native.Nat.{ℕ, _≤_, _<_}
 use native.Mathlib.Omega.{arith}
 use lib.ListN.{getD}
 use borrow.Author.Tests.{leb-false}
-use Rattle.places.specs.Sets.{if_then_else_, has, with, links}
-use Rattle.places.specs.Places.{used}
-use Rattle.places.proofs.Digits.{those-lt}
-use Rattle.places.proofs.Marks.{in-with, has-low, with-old, marks-map, marks-none}
-use Rattle.places.proofs.Table.{table-by, table-add, add-keeps, add-there}
-use Rattle.messages.specs.Named.{AUcf, successful, too-many-channels, too-many-users}
-use Rattle.records.specs.Records.{to}
+use Rattle.cols_spec.specs.Sets.{if_then_else_, has, with, links}
+use Rattle.cols_spec.specs.Places.{used}
+use Rattle.cols_spec.proofs.Digits.{those-lt}
+use Rattle.cols_spec.proofs.Marks.{in-with, has-low, with-old, marks-map, marks-none}
+use Rattle.cols_spec.proofs.Table.{table-by, table-add, add-keeps, add-there}
+use Rattle.codec_table.specs.Named.{AUcf, successful, too-many-channels, too-many-users}
+use Rattle.out_records.specs.Records.{to}
 use Rattle.domain.specs.declared.channel.Kind.{Kind}
 use Rattle.domain.specs.declared.channel.Kind.the-variants.{Static, User, Private, Assigned}
 use Rattle.domain.specs.declared.channel.Channel.{Channel}

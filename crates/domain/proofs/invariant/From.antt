@@ -6,9 +6,9 @@ use native.Mathlib.Omega.{arith}
 use lib.Dec.{eqb}
 use lib.ListN.{length, getD}
 use borrow.Author.Tests.{eqb-true}
-use Rattle.places.specs.Sets.{if_then_else_}
-use Rattle.places.specs.Places.{Place, At, Nowhere, find}
-use Rattle.places.proofs.Rows.{find-holds, getD-any}
+use Rattle.cols_spec.specs.Sets.{if_then_else_}
+use Rattle.cols_spec.specs.Places.{Place, At, Nowhere, find}
+use Rattle.cols_spec.proofs.Rows.{find-holds, getD-any}
 use Rattle.domain.specs.Tables.{Users, Domain, link, attached}
 use Rattle.domain.specs.Effects.{Effect, ignored, done, from, within}
 use Rattle.domain.proofs.invariant.Sound.{Seated, Sound, Fine}

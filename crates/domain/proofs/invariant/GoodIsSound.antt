@@ -4,7 +4,7 @@ use mathlib.Core.Bool.{true, and-eq-true-iff}
 use Prim.Native.Nat.{_^_}
 use lib.Dec.{eqb}
 use borrow.Author.Tests.{eqb-true, leb-true, ltb-true, lt-ltb, le-leb}
-use Rattle.places.proofs.Bools.{and-both}
+use Rattle.cols_spec.proofs.Bools.{and-both}
 use Rattle.domain.specs.Cells.{no-channel, no-token, token-of}
 use Rattle.domain.specs.Tables.{Domain}
 use Rattle.domain.specs.Good.{same-channel, same-token, users-sound, channels-sound, tokens-sound, counts-sound, free-blank, shaped, Good, good}

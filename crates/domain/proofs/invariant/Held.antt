@@ -7,13 +7,13 @@ use native.Mathlib.Omega.{arith}
 use lib.Dec.{eqb}
 use lib.ListN.{length, getD}
 use borrow.Author.Tests.{eqb-false, leb-false}
-use Rattle.places.specs.Sets.{if_then_else_, has, with, without, only, seats}
-use Rattle.places.specs.Places.{Place, At, Nowhere, find, found, spare, seat, used, store, load}
-use Rattle.places.proofs.Marks.{Marks, has-pos, marks-only, marks-with, marks-without, marks-minus, only-self, with-new}
-use Rattle.places.proofs.Rows.{find-holds, find-none}
-use Rattle.places.proofs.Table.{Table, table-put, table-clear, table-add}
-use Rattle.messages.specs.Named.{Message, TGcf, TIcf, TRcf, TVcf, TVin, successful, no-such-user, token-not-available, token-not-possessed}
-use Rattle.records.specs.Records.{to}
+use Rattle.cols_spec.specs.Sets.{if_then_else_, has, with, without, only, seats}
+use Rattle.cols_spec.specs.Places.{Place, At, Nowhere, find, found, spare, seat, used, store, load}
+use Rattle.cols_spec.proofs.Marks.{Marks, has-pos, marks-only, marks-with, marks-without, marks-minus, only-self, with-new}
+use Rattle.cols_spec.proofs.Rows.{find-holds, find-none}
+use Rattle.cols_spec.proofs.Table.{Table, table-put, table-clear, table-add}
+use Rattle.codec_table.specs.Named.{Message, TGcf, TIcf, TRcf, TVcf, TVin, successful, no-such-user, token-not-available, token-not-possessed}
+use Rattle.out_records.specs.Records.{to}
 use Rattle.domain.specs.declared.token.Holding.{Holding}
 use Rattle.domain.specs.declared.token.Holding.the-variants.{Free, Grabbed, Inhibited, Giving, Given}
 use Rattle.domain.specs.Cells.{no-token, hold, token-of}

@@ -7,9 +7,9 @@ use Prim.Native.Nat.{ℕ, _≤_}
 use native.Mathlib.Omega.{arith}
 use lib.Dec.{ltb}
 use lib.ListN.{length}
-use Rattle.places.specs.Sets.{all}
-use Rattle.places.proofs.Bools.{and-parts, and-both}
-use Rattle.places.proofs.Order.{above, keep-le, unused-free}
+use Rattle.cols_spec.specs.Sets.{all}
+use Rattle.cols_spec.proofs.Bools.{and-parts, and-both}
+use Rattle.cols_spec.proofs.Order.{above, keep-le, unused-free}
 use Rattle.domain.specs.declared.Limits.{Limits}
 use Rattle.domain.specs.Tables.{Domain, fresh, grant, in-range, Free-id}
 use Rattle.domain.specs.Events.{Event, step}

@@ -8,15 +8,15 @@ use native.Mathlib.Omega.{arith}
 use lib.Dec.{eqb, ltb}
 use lib.ListN.{length, getD}
 use borrow.Author.Tests.{eqb-true, eqb-false, ltb-false}
-use Rattle.places.specs.Sets.{if_then_else_, any, null, member, has, with, without, minus, union, only, links, seats}
-use Rattle.places.specs.Places.{Place, At, Nowhere, find}
-use Rattle.places.proofs.Bools.{or-elim, some-is}
-use Rattle.places.proofs.Below.{any-elim}
-use Rattle.places.proofs.Digits.{those-lt}
-use Rattle.places.proofs.Marks.{Marks, with-mono, has-pos, in-those, in-without, with-old, with-new, union-left, only-self, marks-map, marks-none, marks-only, marks-with, marks-union, marks-meet, marks-minus, marks-without}
-use Rattle.places.proofs.Rows.{Apart, find-holds, find-none}
-use Rattle.messages.specs.Named.{CJcf, CCcf, CAin, CEin, successful, no-such-channel, too-many-channels, not-admitted, other-user-id}
-use Rattle.records.specs.Records.{to}
+use Rattle.cols_spec.specs.Sets.{if_then_else_, any, null, member, has, with, without, minus, union, only, links, seats}
+use Rattle.cols_spec.specs.Places.{Place, At, Nowhere, find}
+use Rattle.cols_spec.proofs.Bools.{or-elim, some-is}
+use Rattle.cols_spec.proofs.Below.{any-elim}
+use Rattle.cols_spec.proofs.Digits.{those-lt}
+use Rattle.cols_spec.proofs.Marks.{Marks, with-mono, has-pos, in-those, in-without, with-old, with-new, union-left, only-self, marks-map, marks-none, marks-only, marks-with, marks-union, marks-meet, marks-minus, marks-without}
+use Rattle.cols_spec.proofs.Rows.{Apart, find-holds, find-none}
+use Rattle.codec_table.specs.Named.{CJcf, CCcf, CAin, CEin, successful, no-such-channel, too-many-channels, not-admitted, other-user-id}
+use Rattle.out_records.specs.Records.{to}
 use Rattle.domain.specs.declared.channel.Kind.{Kind}
 use Rattle.domain.specs.declared.channel.Kind.the-variants.{Static, User, Private, Assigned}
 use Rattle.domain.specs.declared.channel.Channel.{Channel}

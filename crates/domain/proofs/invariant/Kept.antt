@@ -6,12 +6,12 @@ use Prim.Native.Nat.{ℕ, _≤_, _<_, suc-le-suc}
 use lib.Dec.{ltb}
 use lib.ListN.{length, getD}
 use borrow.Author.Tests.{ltb-false, not-false}
-use Rattle.places.specs.Sets.{if_then_else_, has, with, links}
-use Rattle.places.proofs.Bools.{or-parts}
-use Rattle.messages.specs.Named.{Message, EDrq, DPum, RJum, AUrq, AUcf, DUrq, DUin, CJrq, CJcf, CLrq, CCrq, CCcf, CDrq, CDin, CArq, CAin, CErq, CEin}
-use Rattle.messages.specs.Named.{TGrq, TGcf, TIrq, TIcf, TVrq, TVin, TVrs, TVcf, TPrq, TPin, TRrq, TRcf, TTrq, TTcf}
-use Rattle.messages.proofs.NamedLaws.{Ranges, ranges}
-use Rattle.records.specs.Records.{Sent, records}
+use Rattle.cols_spec.specs.Sets.{if_then_else_, has, with, links}
+use Rattle.cols_spec.proofs.Bools.{or-parts}
+use Rattle.codec_table.specs.Named.{Message, EDrq, DPum, RJum, AUrq, AUcf, DUrq, DUin, CJrq, CJcf, CLrq, CCrq, CCcf, CDrq, CDin, CArq, CAin, CErq, CEin}
+use Rattle.codec_table.specs.Named.{TGrq, TGcf, TIrq, TIcf, TVrq, TVin, TVrs, TVcf, TPrq, TPin, TRrq, TRcf, TTrq, TTcf}
+use Rattle.codec_table.proofs.NamedLaws.{Ranges, ranges}
+use Rattle.out_records.specs.Records.{Sent, records}
 use Rattle.domain.specs.Tables.{Domain, put-links, put-tokens}
 use Rattle.domain.specs.Effects.{Effect, ignored, done, within}
 use Rattle.domain.specs.Leaving.{close}

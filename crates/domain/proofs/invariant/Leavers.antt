@@ -8,15 +8,15 @@ use native.Mathlib.Omega.{arith}
 use lib.Dec.{eqb}
 use lib.ListN.{length, getD}
 use borrow.Author.Tests.{eq-eqb}
-use Rattle.places.specs.Sets.{if_then_else_, null, once, has, with, without, minus, meet, links, seats, member}
-use Rattle.places.specs.Places.{Place, At, Nowhere, find, found, inOrder, turns-to}
-use Rattle.places.proofs.Bools.{some-is, none≢some}
-use Rattle.places.proofs.Digits.{those-lt}
-use Rattle.places.proofs.Marks.{has-low, in-with, in-meet, in-minus, without-other, marks-map, marks-meet, marks-minus}
-use Rattle.places.proofs.Rows.{Apart, find-there, in-list, getD-any, find-holds}
-use Rattle.places.proofs.Table.{Table, table-sweep, sweep-used}
-use Rattle.places.proofs.Members.{member-at, member-keep}
-use Rattle.places.proofs.Order.{in-order-has}
+use Rattle.cols_spec.specs.Sets.{if_then_else_, null, once, has, with, without, minus, meet, links, seats, member}
+use Rattle.cols_spec.specs.Places.{Place, At, Nowhere, find, found, inOrder, turns-to}
+use Rattle.cols_spec.proofs.Bools.{some-is, none≢some}
+use Rattle.cols_spec.proofs.Digits.{those-lt}
+use Rattle.cols_spec.proofs.Marks.{has-low, in-with, in-meet, in-minus, without-other, marks-map, marks-meet, marks-minus}
+use Rattle.cols_spec.proofs.Rows.{Apart, find-there, in-list, getD-any, find-holds}
+use Rattle.cols_spec.proofs.Table.{Table, table-sweep, sweep-used}
+use Rattle.cols_spec.proofs.Members.{member-at, member-keep}
+use Rattle.cols_spec.proofs.Order.{in-order-has}
 use Rattle.domain.specs.declared.channel.Kind.{Kind}
 use Rattle.domain.specs.declared.channel.Kind.the-variants.{Static, User, Private, Assigned}
 use Rattle.domain.specs.declared.channel.Channel.{Channel}

@@ -8,13 +8,13 @@ use native.Mathlib.Omega.{arith}
 use lib.Dec.{eqb}
 use lib.ListN.{length, getD}
 use borrow.Author.Tests.{ne-eqb, eqb-true, eqb-false, leb-false}
-use Rattle.places.specs.Sets.{if_then_else_, has, any}
-use Rattle.places.specs.Places.{used, turns-to}
-use Rattle.places.proofs.Bools.{and-parts, none≢some, some-is}
-use Rattle.places.proofs.Below.{any-upto}
-use Rattle.places.proofs.Marks.{Marks, in-those}
-use Rattle.places.proofs.Rows.{in-list, at-set, getD-any}
-use Rattle.places.proofs.Table.{Table, table-by, table-set, table-clear, table-add, add-keeps, table-sweep, sweep-used}
+use Rattle.cols_spec.specs.Sets.{if_then_else_, has, any}
+use Rattle.cols_spec.specs.Places.{used, turns-to}
+use Rattle.cols_spec.proofs.Bools.{and-parts, none≢some, some-is}
+use Rattle.cols_spec.proofs.Below.{any-upto}
+use Rattle.cols_spec.proofs.Marks.{Marks, in-those}
+use Rattle.cols_spec.proofs.Rows.{in-list, at-set, getD-any}
+use Rattle.cols_spec.proofs.Table.{Table, table-by, table-set, table-clear, table-add, add-keeps, table-sweep, sweep-used}
 use Rattle.domain.specs.declared.channel.Kind.{Kind}
 use Rattle.domain.specs.declared.channel.Kind.the-variants.{Static, User, Private, Assigned}
 use Rattle.domain.specs.declared.channel.Channel.{Channel}

@@ -7,13 +7,13 @@ use native.Mathlib.Omega.{arith}
 use lib.Dec.{eqb, leb, ltb}
 use lib.ListN.{length}
 use borrow.Author.Tests.{eq-eqb, eqb-true, leb-true, ltb-true, lt-ltb, le-leb}
-use Rattle.places.specs.Sets.{all, below, has, with, only, meet, links, seats}
-use Rattle.places.specs.Places.{Place, At, Nowhere, find, load}
-use Rattle.places.proofs.Bools.{and-parts, and-both}
-use Rattle.places.proofs.Below.{all-upto, all-hit, any-hit}
-use Rattle.places.proofs.Digits.{mask-ext, has-those, those-lt}
-use Rattle.places.proofs.Marks.{Marks, has-low, in-meet, in-only, only-self, marks-map}
-use Rattle.places.proofs.Rows.{Apart, find-holds, find-is, in-list, getD-any}
+use Rattle.cols_spec.specs.Sets.{all, below, has, with, only, meet, links, seats}
+use Rattle.cols_spec.specs.Places.{Place, At, Nowhere, find, load}
+use Rattle.cols_spec.proofs.Bools.{and-parts, and-both}
+use Rattle.cols_spec.proofs.Below.{all-upto, all-hit, any-hit}
+use Rattle.cols_spec.proofs.Digits.{mask-ext, has-those, those-lt}
+use Rattle.cols_spec.proofs.Marks.{Marks, has-low, in-meet, in-only, only-self, marks-map}
+use Rattle.cols_spec.proofs.Rows.{Apart, find-holds, find-is, in-list, getD-any}
 use Rattle.domain.specs.declared.channel.Kind.{Kind}
 use Rattle.domain.specs.declared.channel.Kind.the-variants.{Static, User, Private, Assigned}
 use Rattle.domain.specs.declared.channel.Channel.{Channel}

@@ -6,12 +6,12 @@ use native.Mathlib.Omega.{arith}
 use lib.Dec.{leb}
 use lib.ListN.{getD}
 use borrow.Author.Tests.{leb-true, le-leb, not-true}
-use Rattle.places.specs.Places.{find, found}
-use Rattle.places.specs.Sets.{has, with, seats}
-use Rattle.places.proofs.Bools.{and-parts, and-both}
-use Rattle.places.proofs.Marks.{Marks}
-use Rattle.places.proofs.Rows.{not-there}
-use Rattle.places.proofs.Table.{Table}
+use Rattle.cols_spec.specs.Places.{find, found}
+use Rattle.cols_spec.specs.Sets.{has, with, seats}
+use Rattle.cols_spec.proofs.Bools.{and-parts, and-both}
+use Rattle.cols_spec.proofs.Marks.{Marks}
+use Rattle.cols_spec.proofs.Rows.{not-there}
+use Rattle.cols_spec.proofs.Table.{Table}
 use Rattle.domain.specs.declared.Limits.{Limits}
 use Rattle.domain.specs.declared.channel.Kind.{Kind}
 use Rattle.domain.specs.declared.channel.Kind.the-variants.{Static, User, Private, Assigned}

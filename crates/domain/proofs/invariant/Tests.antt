@@ -8,13 +8,13 @@ use native.Mathlib.Nat.{suc-inj, suc-ne-zero, le-of-suc-le-suc, zero-lt-suc}
 use lib.Dec.{eqb, ltb}
 use lib.ListN.{length, getD, List·getD-eq-default}
 use borrow.Author.Tests.{ne-eqb, eqb-false, ltb-true, ltb-false, le-ltb}
-use Rattle.places.specs.Sets.{member}
-use Rattle.places.specs.Places.{distinct, every, used}
-use Rattle.places.proofs.Bools.{and-parts, and-both}
-use Rattle.places.proofs.Places.{distinct-head, distinct-tail}
-use Rattle.places.proofs.Rows.{Apart, in-list}
-use Rattle.places.proofs.Table.{Table}
-use Rattle.places.proofs.Members.{member-at, member-where}
+use Rattle.cols_spec.specs.Sets.{member}
+use Rattle.cols_spec.specs.Places.{distinct, every, used}
+use Rattle.cols_spec.proofs.Bools.{and-parts, and-both}
+use Rattle.cols_spec.proofs.Places.{distinct-head, distinct-tail}
+use Rattle.cols_spec.proofs.Rows.{Apart, in-list}
+use Rattle.cols_spec.proofs.Table.{Table}
+use Rattle.cols_spec.proofs.Members.{member-at, member-where}
 
 -- ---- no id twice
 

@@ -7,14 +7,14 @@ use native.Mathlib.Omega.{arith}
 use lib.Dec.{eqb, ltb}
 use lib.ListN.{length, getD}
 use borrow.Author.Tests.{eq-eqb}
-use Rattle.places.specs.Sets.{if_then_else_, any, null, once, has, member}
-use Rattle.places.specs.Places.{At, Nowhere, find, found}
-use Rattle.places.proofs.Bools.{and-parts}
-use Rattle.places.proofs.Digits.{mask-ext}
-use Rattle.places.proofs.Marks.{Marks, in-those}
-use Rattle.places.proofs.Rows.{find-there, find-holds}
-use Rattle.places.proofs.Members.{member-keep, member-once}
-use Rattle.records.specs.Records.{Sent, records}
+use Rattle.cols_spec.specs.Sets.{if_then_else_, any, null, once, has, member}
+use Rattle.cols_spec.specs.Places.{At, Nowhere, find, found}
+use Rattle.cols_spec.proofs.Bools.{and-parts}
+use Rattle.cols_spec.proofs.Digits.{mask-ext}
+use Rattle.cols_spec.proofs.Marks.{Marks, in-those}
+use Rattle.cols_spec.proofs.Rows.{find-there, find-holds}
+use Rattle.cols_spec.proofs.Members.{member-keep, member-once}
+use Rattle.out_records.specs.Records.{Sent, records}
 use Rattle.domain.specs.Tables.{Users, Domain, link, attached}
 use Rattle.domain.specs.Effects.{ignored}
 use Rattle.domain.specs.Channels.{places}

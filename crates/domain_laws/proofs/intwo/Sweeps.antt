@@ -10,9 +10,9 @@ use lib.Dec.{eqb}
 use lib.ListN.{length, getD}
 use lib.Seq.{ext-getD}
 use borrow.Author.Tests.{eqb-false}
-use Rattle.places.specs.Sets.{if_then_else_}
-use Rattle.places.specs.Places.{becomes, turns-to, sweep}
-use Rattle.places.proofs.Rows.{swept-at, sweep-sizes}
+use Rattle.cols_spec.specs.Sets.{if_then_else_}
+use Rattle.cols_spec.specs.Places.{becomes, turns-to, sweep}
+use Rattle.cols_spec.proofs.Rows.{swept-at, sweep-sizes}
 
 module _ {A : Type 0} where
   -- what becomes of what stays

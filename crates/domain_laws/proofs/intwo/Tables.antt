@@ -8,13 +8,13 @@ use native.Mathlib.Omega.{arith}
 use lib.Dec.{eqb}
 use lib.ListN.{length, getD}
 use borrow.Author.Tests.{ne-eqb, eqb-true}
-use Rattle.places.specs.Sets.{if_then_else_, any, has, those, with, minus, meet, seats, links, upto}
-use Rattle.places.specs.Places.{At, find}
-use Rattle.places.proofs.Bools.{and-parts, and-both, or-parts}
-use Rattle.places.proofs.Below.{any-same, any-upto, any-hit}
-use Rattle.places.proofs.Digits.{has-those, those-lt, mask-ext}
-use Rattle.places.proofs.Marks.{Marks, has-none, in-with, in-minus, with-mono}
-use Rattle.places.proofs.Rows.{find-there}
+use Rattle.cols_spec.specs.Sets.{if_then_else_, any, has, those, with, minus, meet, seats, links, upto}
+use Rattle.cols_spec.specs.Places.{At, find}
+use Rattle.cols_spec.proofs.Bools.{and-parts, and-both, or-parts}
+use Rattle.cols_spec.proofs.Below.{any-same, any-upto, any-hit}
+use Rattle.cols_spec.proofs.Digits.{has-those, those-lt, mask-ext}
+use Rattle.cols_spec.proofs.Marks.{Marks, has-none, in-with, in-minus, with-mono}
+use Rattle.cols_spec.proofs.Rows.{find-there}
 use Rattle.domain.specs.declared.channel.Kind.{Kind}
 use Rattle.domain.specs.declared.channel.Kind.the-variants.{Static, User, Private, Assigned}
 use Rattle.domain.specs.declared.channel.Channel.{Channel}

@@ -6,10 +6,10 @@ use mathlib.Core.Option.{Option, none, some}
 use Prim.Native.Nat.{ℕ, _≤_}
 use native.Mathlib.Omega.{arith}
 use lib.ListN.{length, getD}
-use Rattle.places.specs.Sets.{has, member}
-use Rattle.places.specs.Places.{Place, At, Nowhere, find, found, inOrder, number, load}
-use Rattle.places.proofs.Marks.{Marks}
-use Rattle.places.proofs.Rows.{At≢Nowhere, find-holds, find-there}
+use Rattle.cols_spec.specs.Sets.{has, member}
+use Rattle.cols_spec.specs.Places.{Place, At, Nowhere, find, found, inOrder, number, load}
+use Rattle.cols_spec.proofs.Marks.{Marks}
+use Rattle.cols_spec.proofs.Rows.{At≢Nowhere, find-holds, find-there}
 use Rattle.domain.specs.declared.channel.Kind.{Kind}
 use Rattle.domain.specs.declared.channel.Kind.the-variants.{Static, User, Private, Assigned}
 use Rattle.domain.specs.declared.token.Holding.{Holding}

@@ -8,10 +8,10 @@ use native.Mathlib.Omega.{arith}
 use lib.Dec.{eqb, ltb}
 use lib.ListN.{length}
 use borrow.Author.Tests.{eq-eqb, ne-eqb, eqb-true, ltb-true, lt-ltb}
-use Rattle.places.specs.Sets.{if_then_else_, keep, any, all, each, member}
-use Rattle.places.specs.Places.{next, rising, inOrder}
-use Rattle.places.proofs.Bools.{and-parts, and-both, or-elim, or-parts, some-is, none≢some}
-use Rattle.places.proofs.Kept.{next-is-there}
+use Rattle.cols_spec.specs.Sets.{if_then_else_, keep, any, all, each, member}
+use Rattle.cols_spec.specs.Places.{next, rising, inOrder}
+use Rattle.cols_spec.proofs.Bools.{and-parts, and-both, or-elim, or-parts, some-is, none≢some}
+use Rattle.cols_spec.proofs.Kept.{next-is-there}
 use Rattle.domain_laws.specs.View.{row, pick}
 use Rattle.domain_laws.specs.Built.{ascending}
 use Rattle.domain.proofs.Sending.{all-append}

@@ -9,15 +9,15 @@ use native.Mathlib.Omega.{arith}
 use lib.Dec.{eqb, ltb}
 use lib.ListN.{length, getD, replicate, length-append, length-replicate, length-map}
 use borrow.Author.Tests.{eq-eqb, ne-eqb, eqb-true, eqb-false}
-use Rattle.places.specs.Sets.{if_then_else_, keep, any, each, member}
-use Rattle.places.specs.Places.{Place, At, Nowhere, first, find, next, rising, inOrder, distinct, used}
-use Rattle.places.proofs.Bools.{and-both, or-elim}
-use Rattle.places.proofs.Places.{shift, first-shift}
-use Rattle.places.proofs.Members.{member-append}
-use Rattle.places.proofs.Order.{above, above-less, in-order-length}
-use Rattle.places.proofs.Kept.{next-is-there}
-use Rattle.places.proofs.Rows.{Apart}
-use Rattle.places.proofs.Table.{Table}
+use Rattle.cols_spec.specs.Sets.{if_then_else_, keep, any, each, member}
+use Rattle.cols_spec.specs.Places.{Place, At, Nowhere, first, find, next, rising, inOrder, distinct, used}
+use Rattle.cols_spec.proofs.Bools.{and-both, or-elim}
+use Rattle.cols_spec.proofs.Places.{shift, first-shift}
+use Rattle.cols_spec.proofs.Members.{member-append}
+use Rattle.cols_spec.proofs.Order.{above, above-less, in-order-length}
+use Rattle.cols_spec.proofs.Kept.{next-is-there}
+use Rattle.cols_spec.proofs.Rows.{Apart}
+use Rattle.cols_spec.proofs.Table.{Table}
 use Rattle.domain.specs.Tables.{seen}
 use Rattle.domain_laws.specs.View.{row, pick}
 use Rattle.domain_laws.specs.Built.{padded}

@@ -8,13 +8,13 @@ use native.Mathlib.Omega.{arith}
 use lib.Dec.{eqb}
 use lib.ListN.{getD}
 use borrow.Author.Tests.{ne-eqb, eqb-false, not-true}
-use Rattle.places.specs.Sets.{if_then_else_, member}
-use Rattle.places.specs.Places.{Place, At, Nowhere, find, inOrder}
-use Rattle.places.proofs.Bools.{some-is, none≢some}
-use Rattle.places.proofs.Marks.{marks-map, in-with}
-use Rattle.places.proofs.Rows.{find-holds, find-there, getD-any, Apart}
-use Rattle.places.proofs.Answers.{found-somewhere}
-use Rattle.places.proofs.Table.{Table}
+use Rattle.cols_spec.specs.Sets.{if_then_else_, member}
+use Rattle.cols_spec.specs.Places.{Place, At, Nowhere, find, inOrder}
+use Rattle.cols_spec.proofs.Bools.{some-is, none≢some}
+use Rattle.cols_spec.proofs.Marks.{marks-map, in-with}
+use Rattle.cols_spec.proofs.Rows.{find-holds, find-there, getD-any, Apart}
+use Rattle.cols_spec.proofs.Answers.{found-somewhere}
+use Rattle.cols_spec.proofs.Table.{Table}
 use Rattle.domain.specs.declared.channel.Kind.{Kind}
 use Rattle.domain.specs.declared.channel.Kind.the-variants.{Static, User, Private, Assigned}
 use Rattle.domain.specs.declared.token.Holding.{Holding}

@@ -8,13 +8,13 @@ use native.Mathlib.Omega.{arith}
 use lib.Dec.{eqb}
 use lib.ListN.{length, getD, length-map, replicate}
 use borrow.Author.Tests.{leb-true, le-leb, not-true}
-use Rattle.places.specs.Sets.{if_then_else_, has, any, all, each, member}
-use Rattle.places.specs.Places.{Place, At, Nowhere, find, found, inOrder, number}
-use Rattle.places.proofs.Bools.{and-parts, and-both, or-elim, none≢some}
-use Rattle.places.proofs.Members.{member-append}
-use Rattle.places.proofs.Order.{in-order-has}
-use Rattle.places.proofs.Rows.{find-holds, find-there}
-use Rattle.places.proofs.Answers.{found-somewhere}
+use Rattle.cols_spec.specs.Sets.{if_then_else_, has, any, all, each, member}
+use Rattle.cols_spec.specs.Places.{Place, At, Nowhere, find, found, inOrder, number}
+use Rattle.cols_spec.proofs.Bools.{and-parts, and-both, or-elim, none≢some}
+use Rattle.cols_spec.proofs.Members.{member-append}
+use Rattle.cols_spec.proofs.Order.{in-order-has}
+use Rattle.cols_spec.proofs.Rows.{find-holds, find-there}
+use Rattle.cols_spec.proofs.Answers.{found-somewhere}
 use Rattle.domain.specs.declared.channel.Kind.{Kind}
 use Rattle.domain.specs.declared.channel.Kind.the-variants.{Static, User, Private, Assigned}
 use Rattle.domain.specs.declared.token.Holding.{Holding}

@@ -8,12 +8,12 @@ use lib.Dec.{eqb}
 use lib.ListN.{length, getD}
 use lib.Seq.{getD-set-same, getD-set-other}
 use borrow.Author.Tests.{ne-eqb, leb-false}
-use Rattle.places.specs.Sets.{if_then_else_, has}
-use Rattle.places.specs.Places.{Place, At, Nowhere, find, spare, used, store}
-use Rattle.places.proofs.Marks.{marks-map}
-use Rattle.places.proofs.Rows.{At≢Nowhere, At-inj, find-holds, find-gone, find-there, first-holds, spare-there}
-use Rattle.places.proofs.Table.{table-add}
-use Rattle.places.proofs.Found.{find-added}
+use Rattle.cols_spec.specs.Sets.{if_then_else_, has}
+use Rattle.cols_spec.specs.Places.{Place, At, Nowhere, find, spare, used, store}
+use Rattle.cols_spec.proofs.Marks.{marks-map}
+use Rattle.cols_spec.proofs.Rows.{At≢Nowhere, At-inj, find-holds, find-gone, find-there, first-holds, spare-there}
+use Rattle.cols_spec.proofs.Table.{table-add}
+use Rattle.cols_spec.proofs.Found.{find-added}
 use Rattle.domain.specs.declared.channel.Kind.{Kind}
 use Rattle.domain.specs.declared.channel.Kind.the-variants.{User}
 use Rattle.domain.specs.declared.token.Holding.{Holding}

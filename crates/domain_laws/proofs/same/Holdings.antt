@@ -5,8 +5,8 @@ use mathlib.Core.List.{List, []}
 use Prim.Native.Nat.{ℕ}
 use native.Mathlib.Omega.{arith}
 use lib.Dec.{eqb}
-use Rattle.places.specs.Sets.{if_then_else_, has, only, seats}
-use Rattle.messages.specs.Named.{self-recipient, other-giving}
+use Rattle.cols_spec.specs.Sets.{if_then_else_, has, only, seats}
+use Rattle.codec_table.specs.Named.{self-recipient, other-giving}
 use Rattle.domain.specs.declared.token.Holding.{Holding}
 use Rattle.domain.specs.declared.token.Holding.the-variants.{Free, Grabbed, Inhibited, Giving, Given}
 use Rattle.domain.specs.Tables.{Users, is-free}

@@ -8,13 +8,13 @@ use native.Mathlib.Omega.{arith}
 use lib.Dec.{eqb, ltb}
 use lib.ListN.{getD}
 use borrow.Author.Tests.{eqb-true, eqb-false, leb-false}
-use Rattle.places.specs.Sets.{if_then_else_, keep, any, null, each, below, member, once, has, with, without, meet, links}
-use Rattle.places.specs.Places.{Place, At, Nowhere, find, found, spare, used, load}
-use Rattle.places.proofs.Rows.{find-none}
-use Rattle.places.proofs.Table.{Table, new-place}
-use Rattle.places.proofs.Found.{find-added, load-added, load-put, find-cleared, load-cleared}
-use Rattle.messages.specs.Named.{Message, CDin, CAin, CEin}
-use Rattle.records.specs.Records.{to, tell}
+use Rattle.cols_spec.specs.Sets.{if_then_else_, keep, any, null, each, below, member, once, has, with, without, meet, links}
+use Rattle.cols_spec.specs.Places.{Place, At, Nowhere, find, found, spare, used, load}
+use Rattle.cols_spec.proofs.Rows.{find-none}
+use Rattle.cols_spec.proofs.Table.{Table, new-place}
+use Rattle.cols_spec.proofs.Found.{find-added, load-added, load-put, find-cleared, load-cleared}
+use Rattle.codec_table.specs.Named.{Message, CDin, CAin, CEin}
+use Rattle.out_records.specs.Records.{to, tell}
 use Rattle.domain.specs.declared.channel.Kind.{Kind}
 use Rattle.domain.specs.declared.channel.Kind.the-variants.{Private}
 use Rattle.domain.specs.declared.channel.Channel.{Channel}

@@ -5,10 +5,10 @@ use mathlib.Core.Option.{Option, none, some}
 use Prim.Native.Nat.{ℕ, _≤_}
 use native.Mathlib.Omega.{arith}
 use lib.ListN.{getD}
-use Rattle.places.specs.Places.{Place, At, Nowhere, find, found, load}
-use Rattle.places.proofs.Bools.{some-is, none≢some}
-use Rattle.places.proofs.Marks.{Marks}
-use Rattle.places.proofs.Rows.{find-holds}
+use Rattle.cols_spec.specs.Places.{Place, At, Nowhere, find, found, load}
+use Rattle.cols_spec.proofs.Bools.{some-is, none≢some}
+use Rattle.cols_spec.proofs.Marks.{Marks}
+use Rattle.cols_spec.proofs.Rows.{find-holds}
 use Rattle.domain.specs.declared.channel.Kind.{Kind}
 use Rattle.domain.specs.declared.channel.Kind.the-variants.{Static, User, Private, Assigned}
 use Rattle.domain.specs.declared.channel.Channel.{Channel}

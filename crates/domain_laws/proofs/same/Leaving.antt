@@ -6,14 +6,14 @@ use mathlib.Core.Option.{Option, none, some}
 use Prim.Native.Nat.{ℕ}
 use lib.Dec.{eqb}
 use lib.ListN.{getD}
-use Rattle.places.specs.Sets.{if_then_else_, keep, null, once, has, without, minus, meet, seats, links}
-use Rattle.places.specs.Places.{Place, At, Nowhere, find, found, inOrder, turns-to}
-use Rattle.places.proofs.Marks.{marks-minus}
-use Rattle.places.proofs.Rows.{At≢Nowhere, At-inj, find-holds, find-there}
-use Rattle.places.proofs.Table.{Table, table-sweep, sweep-used}
-use Rattle.places.proofs.Found.{find-still, find-kept, find-freed}
-use Rattle.messages.specs.Named.{DUin}
-use Rattle.records.specs.Records.{Sent, tell}
+use Rattle.cols_spec.specs.Sets.{if_then_else_, keep, null, once, has, without, minus, meet, seats, links}
+use Rattle.cols_spec.specs.Places.{Place, At, Nowhere, find, found, inOrder, turns-to}
+use Rattle.cols_spec.proofs.Marks.{marks-minus}
+use Rattle.cols_spec.proofs.Rows.{At≢Nowhere, At-inj, find-holds, find-there}
+use Rattle.cols_spec.proofs.Table.{Table, table-sweep, sweep-used}
+use Rattle.cols_spec.proofs.Found.{find-still, find-kept, find-freed}
+use Rattle.codec_table.specs.Named.{DUin}
+use Rattle.out_records.specs.Records.{Sent, tell}
 use Rattle.domain.specs.declared.channel.Kind.{Kind}
 use Rattle.domain.specs.declared.channel.Kind.the-variants.{User, Private}
 use Rattle.domain.specs.declared.channel.Channel.{Channel}

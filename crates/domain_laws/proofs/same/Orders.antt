@@ -3,13 +3,13 @@ use mathlib.Core.Path.{_≡_, refl, sym, ap, _∙_, fun-ext}
 use mathlib.Core.Bool.{true, true≢false}
 use mathlib.Core.List.{List, [], _∷_}
 use Prim.Native.Nat.{ℕ, _<_}
-use Rattle.places.specs.Sets.{each, member}
-use Rattle.places.specs.Places.{At, find, found, inOrder}
-use Rattle.places.proofs.Rows.{find-holds}
-use Rattle.places.proofs.Members.{member-at, member-where}
-use Rattle.places.proofs.Answers.{stands-found, found-somewhere}
-use Rattle.places.proofs.Order.{in-order-has}
-use Rattle.places.proofs.Kept.{each-same}
+use Rattle.cols_spec.specs.Sets.{each, member}
+use Rattle.cols_spec.specs.Places.{At, find, found, inOrder}
+use Rattle.cols_spec.proofs.Rows.{find-holds}
+use Rattle.cols_spec.proofs.Members.{member-at, member-where}
+use Rattle.cols_spec.proofs.Answers.{stands-found, found-somewhere}
+use Rattle.cols_spec.proofs.Order.{in-order-has}
+use Rattle.cols_spec.proofs.Kept.{each-same}
 
 pub in-list-found : (ids : List ℕ) (x : ℕ) → 0 < x → member x ids ≡ true → found (find ids x) ≡ true
 in-list-found ids x h m = let w = member-where ids x m in stands-found ids x (w .0) h (w .1)

@@ -5,11 +5,11 @@ use mathlib.Core.List.{[], _∷_}
 use Prim.Native.Nat.{ℕ, _≤_}
 use native.Mathlib.Omega.{arith}
 use lib.Dec.{eqb}
-use Rattle.places.specs.Sets.{if_then_else_}
-use Rattle.places.specs.Places.{Place, At, Nowhere, find, found, load}
-use Rattle.places.proofs.Rows.{find-holds}
-use Rattle.messages.specs.Named.{Message, TGcf, TIcf, TVin, TVcf, TPin, TRcf, TTcf, successful, no-such-user, token-not-possessed}
-use Rattle.records.specs.Records.{to, tell}
+use Rattle.cols_spec.specs.Sets.{if_then_else_}
+use Rattle.cols_spec.specs.Places.{Place, At, Nowhere, find, found, load}
+use Rattle.cols_spec.proofs.Rows.{find-holds}
+use Rattle.codec_table.specs.Named.{Message, TGcf, TIcf, TVin, TVcf, TPin, TRcf, TTcf, successful, no-such-user, token-not-possessed}
+use Rattle.out_records.specs.Records.{to, tell}
 use Rattle.domain.specs.declared.token.Holding.{Holding}
 use Rattle.domain.specs.declared.token.Holding.the-variants.{Giving}
 use Rattle.domain.specs.Cells.{no-token, hold}

@@ -7,14 +7,14 @@ use native.Mathlib.Omega.{arith}
 use lib.Dec.{eqb}
 use lib.ListN.{getD}
 use borrow.Author.Tests.{eqb-true, eqb-false, ne-eqb}
-use Rattle.places.specs.Sets.{if_then_else_, member}
-use Rattle.places.specs.Places.{Place, At, Nowhere, find, found, used, unused}
-use Rattle.places.proofs.Bools.{and-parts, and-both}
-use Rattle.places.proofs.Rows.{Apart, find-holds}
-use Rattle.places.proofs.Answers.{stands-found, found-somewhere}
-use Rattle.places.proofs.Turns.{unused-here, unused-later}
-use Rattle.places.proofs.Members.{member-at, member-where}
-use Rattle.records.specs.Records.{Sent}
+use Rattle.cols_spec.specs.Sets.{if_then_else_, member}
+use Rattle.cols_spec.specs.Places.{Place, At, Nowhere, find, found, used, unused}
+use Rattle.cols_spec.proofs.Bools.{and-parts, and-both}
+use Rattle.cols_spec.proofs.Rows.{Apart, find-holds}
+use Rattle.cols_spec.proofs.Answers.{stands-found, found-somewhere}
+use Rattle.cols_spec.proofs.Turns.{unused-here, unused-later}
+use Rattle.cols_spec.proofs.Members.{member-at, member-where}
+use Rattle.out_records.specs.Records.{Sent}
 use Rattle.domain.specs.Tables.{Users, link, attached}
 use Rattle.domain.specs.Effects.{Effect, ignored, done, from, within}
 use Rattle.domain.proofs.invariant.Tests.{apart-distinct}

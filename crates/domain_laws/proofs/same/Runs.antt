@@ -4,10 +4,10 @@ use mathlib.Core.Bool.{So}
 use mathlib.Core.List.{List, [], _∷_, _++_}
 use Prim.Native.Nat.{ℕ}
 use lib.ListN.{length, drop}
-use Rattle.places.specs.Sets.{all, listed, links}
-use Rattle.places.specs.Places.{find, load}
-use Rattle.places.proofs.Bools.{and-parts}
-use Rattle.records.specs.Records.{Sent, records}
+use Rattle.cols_spec.specs.Sets.{all, listed, links}
+use Rattle.cols_spec.specs.Places.{find, load}
+use Rattle.cols_spec.proofs.Bools.{and-parts}
+use Rattle.out_records.specs.Records.{Sent, records}
 use Rattle.domain.specs.Cells.{no-channel}
 use Rattle.domain.specs.Tables.{Domain, channel}
 use Rattle.domain.specs.Outcomes.{audience, after, turned as turned-room}

@@ -7,14 +7,14 @@ use native.Mathlib.Omega.{arith}
 use lib.Dec.{ltb}
 use lib.ListN.{length, getD}
 use borrow.Author.Tests.{not-true}
-use Rattle.places.specs.Sets.{has, with, links}
-use Rattle.places.specs.Places.{find, found}
-use Rattle.places.proofs.Bools.{and-parts}
-use Rattle.places.proofs.Rows.{not-there}
-use Rattle.messages.specs.Named.{Message, EDrq, DPum, RJum, AUrq, AUcf, DUrq, DUin, CJrq, CJcf, CLrq, CCrq, CCcf, CDrq, CDin, CArq, CAin, CErq, CEin}
-use Rattle.messages.specs.Named.{TGrq, TGcf, TIrq, TIcf, TVrq, TVin, TVrs, TVcf, TPrq, TPin, TRrq, TRcf, TTrq, TTcf}
-use Rattle.messages.proofs.NamedLaws.{Ranges, ranges}
-use Rattle.records.specs.Records.{Sent, records}
+use Rattle.cols_spec.specs.Sets.{has, with, links}
+use Rattle.cols_spec.specs.Places.{find, found}
+use Rattle.cols_spec.proofs.Bools.{and-parts}
+use Rattle.cols_spec.proofs.Rows.{not-there}
+use Rattle.codec_table.specs.Named.{Message, EDrq, DPum, RJum, AUrq, AUcf, DUrq, DUin, CJrq, CJcf, CLrq, CCrq, CCcf, CDrq, CDin, CArq, CAin, CErq, CEin}
+use Rattle.codec_table.specs.Named.{TGrq, TGcf, TIrq, TIcf, TVrq, TVin, TVrs, TVcf, TPrq, TPin, TRrq, TRcf, TTrq, TTcf}
+use Rattle.codec_table.proofs.NamedLaws.{Ranges, ranges}
+use Rattle.out_records.specs.Records.{Sent, records}
 use Rattle.domain.specs.Tables.{Channels, Tokens, Domain, put-channels, put-tokens, between, grant}
 use Rattle.domain.specs.Effects.{Effect, within}
 use Rattle.domain.specs.Events.{act, Event, opens, loses, hears, Reading, reads, refuses, stays, sends, ends, answers, step-with, step}

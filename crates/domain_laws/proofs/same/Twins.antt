@@ -8,14 +8,14 @@ use native.Mathlib.Omega.{arith}
 use lib.Dec.{eqb}
 use lib.ListN.{length, getD}
 use borrow.Author.Tests.{eq-eqb, eqb-true}
-use Rattle.places.specs.Sets.{keep, any, member, has, those, with, without, minus, union, only, seats, links, upto}
-use Rattle.places.specs.Places.{Place, At, Nowhere, find, found, inOrder}
-use Rattle.places.proofs.Bools.{and-parts, and-both, some-is, none≢some}
-use Rattle.places.proofs.Below.{any-upto, any-hit}
-use Rattle.places.proofs.Digits.{has-those, mask-ext}
-use Rattle.places.proofs.Marks.{Marks, marks-none, marks-only, marks-with, marks-without, marks-minus, marks-union, has-none}
-use Rattle.places.proofs.Members.{member-keep}
-use Rattle.places.proofs.Rows.{At≢Nowhere, Apart, find-holds, find-there, same-place}
+use Rattle.cols_spec.specs.Sets.{keep, any, member, has, those, with, without, minus, union, only, seats, links, upto}
+use Rattle.cols_spec.specs.Places.{Place, At, Nowhere, find, found, inOrder}
+use Rattle.cols_spec.proofs.Bools.{and-parts, and-both, some-is, none≢some}
+use Rattle.cols_spec.proofs.Below.{any-upto, any-hit}
+use Rattle.cols_spec.proofs.Digits.{has-those, mask-ext}
+use Rattle.cols_spec.proofs.Marks.{Marks, marks-none, marks-only, marks-with, marks-without, marks-minus, marks-union, has-none}
+use Rattle.cols_spec.proofs.Members.{member-keep}
+use Rattle.cols_spec.proofs.Rows.{At≢Nowhere, Apart, find-holds, find-there, same-place}
 use Rattle.domain.specs.Tables.{Users, Domain, name, link, hosts, seen}
 use Rattle.domain.specs.Channels.{places}
 use Rattle.domain_laws.specs.Same.{home-of, among, ids-of, Same}

@@ -6,8 +6,8 @@ use mathlib.Core.Option.{Option, none, some}
 use Prim.Native.Nat.{ℕ}
 use lib.Dec.{eqb}
 use borrow.Author.Tests.{eqb-true}
-use Rattle.places.specs.Sets.{if_then_else_, any, each, member}
-use Rattle.places.specs.Places.{Place, At, Nowhere, find, inOrder, load}
+use Rattle.cols_spec.specs.Sets.{if_then_else_, any, each, member}
+use Rattle.cols_spec.specs.Places.{Place, At, Nowhere, find, inOrder, load}
 use Rattle.domain.specs.Cells.{no-token, hold}
 use Rattle.domain.specs.Tables.{Domain, state}
 use Rattle.domain_laws.specs.Same.{home-of, channel-at, Standing, nobody, standing, token-at, Same}

@@ -1,10 +1,10 @@
 use mathlib.Core.Path.{sym, _∙_}
 use native.Mathlib.Omega.{arith}
-use Rattle.messages.proofs.Refusals.{bytes-at}
-use Rattle.brief.proofs.Shapes.{none-read}
-use Rattle.understanding.specs.Understood.{understood}
+use Rattle.codec_table.proofs.Refusals.{bytes-at}
+use Rattle.codec_read_fast.proofs.Shapes.{none-read}
+use Rattle.serve_read.specs.Understood.{understood}
 use Rattle.domain.proofs.Turning.{not-true, not-false, shut-hears, open-served}
-use Rattle.understanding.proofs.Understanding.{token-asks, short-asks}
+use Rattle.serve_read.proofs.Understanding.{token-asks, short-asks}
 use borrow.Author.Needs.{needs}
 use Rattle.provider.proofs.message.Statement.{statement}
 use Rattle.provider.proofs.message.Tie as tie

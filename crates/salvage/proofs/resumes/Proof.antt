@@ -4,8 +4,8 @@ use native.Mathlib.Omega.{arith}
 use denote.Ref.{now}
 use lib.ListN.{drop}
 use lib.Dec.{ltb}
-use Rattle.frames.specs.Good.{goodSize}
-use Rattle.frames.proofs.Good.{within}
+use Rattle.trace_frames.specs.Good.{goodSize}
+use Rattle.trace_frames.proofs.Good.{within}
 use Rattle.salvage.proofs.SpanLaws.{part-is, resumes-none, resumes-last, resumes-next}
 use borrow.Author.Needs.{needs}
 use Rattle.salvage.proofs.resumes.Statement.{statement}

@@ -1,0 +1,19 @@
+-- `cols_walk::message`: the provider's own equation, and the answer's numbers.
+use borrow.Author.Needs.{needs}
+use Rattle.c_fields.proofs.message.Statement.{statement}
+use Rattle.c_fields.proofs.message.Tie as tie
+
+message-requires : tie.Need-message-requires
+message-requires c κs = search needs
+
+numbered-requires : tie.Need-numbered-requires
+numbered-requires c κs = search needs
+
+same-length : tie.Need-same-length
+same-length c = search needs
+
+returns : tie.Need-returns
+returns c = rw (c .numbered .ensures .0) (rw (c .numbered .ensures .1) (c .before .before .before .message .ensures))
+
+pub message-spec : {M : Type 1} → statement M
+message-spec = tie.close (tie.spec message-requires numbered-requires same-length returns)

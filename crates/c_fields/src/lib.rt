@@ -1,0 +1,234 @@
+// The provider over the fields of a struct that are lent one by one, for one lifetime. Its answers are numbers.
+ghost use mathlib.Core.Path.{_≡_};
+ghost use mathlib.Core.List.{List};
+ghost use Prim.Native.Nat.{ℕ};
+ghost use Rattle.cols_spec.specs.Places.{used};
+ghost use Rattle.domain.specs.Tables.{Domain, channels-of, domain-of};
+ghost use Rattle.domain.specs.Numbers.{replyNumber};
+ghost use Rattle.domain.specs.Effects.{settled};
+ghost use Rattle.domain.specs.Events.{opens, loses, hears};
+ghost use Rattle.domain.specs.Outcomes.{limited, begun, after, audience as audienceOf};
+ghost use Rattle.serve_read.specs.Understood.{understood};
+use domain::Limits;
+use domain::answer::Answer;
+use domain_state::numbers::reply_number;
+
+// What an event is answered with: the reply's number, and how many octets are sent.
+#[repr(C)]
+pub struct Answered {
+    pub reply: u32,
+    pub sent: usize,
+}
+
+// The limits are taken, and every column cleared; a limit out of range leaves them all.
+pub fn start<'a>(
+    channels: &'a mut u8,
+    users: &'a mut u8,
+    tokens: &'a mut u8,
+    links: &'a mut u16,
+    names: &'a mut [u16; 64],
+    homes: &'a mut [u8; 64],
+    ids: &'a mut [u16; 128],
+    roles: &'a mut [u8; 128],
+    chairs: &'a mut [u8; 128],
+    guests: &'a mut [u64; 128],
+    marks: &'a mut [u16; 128],
+    keys: &'a mut [u16; 64],
+    modes: &'a mut [u8; 64],
+    values: &'a mut [u64; 64],
+    most_channels: u32,
+    most_users: u32,
+    most_tokens: u32,
+) -> u32
+    ensures { λ r. ⌜ _≡_ {A = ℕ × Domain} (
+      r,
+      domain-of (limited (now (channels .exit)) (now (users .exit)) (now (tokens .exit))) (now (links .exit)) (now (names .exit)) (now (homes .exit)) (now (ids .exit)) (now (roles .exit))
+          (now (chairs .exit)) (now (guests .exit)) (now (marks .exit)) (now (keys .exit)) (now (modes .exit)) (now (values .exit)),
+    )
+        (begun «most_channels» «most_users» «most_tokens» (domain-of (limited (now (channels .entry)) (now (users .entry)) (now (tokens .entry))) (now (links .entry)) (now (names .entry)) (now (homes .entry)) (now (ids .entry)) (now (roles .entry))
+        (now (chairs .entry)) (now (guests .entry)) (now (marks .entry)) (now (keys .entry)) (now (modes .entry)) (now (values .entry)))) ⌝ }
+{
+    let s = serve_session::start(
+        most_channels,
+        most_users,
+        most_tokens,
+        links,
+        names,
+        homes,
+        ids,
+        roles,
+        chairs,
+        guests,
+        marks,
+        keys,
+        modes,
+        values,
+    );
+    let reply = s.reply;
+    let n = reply_number(reply);
+    if n == 0 {
+        let l = s.limits;
+        *channels = l.channels;
+        *users = l.users;
+        *tokens = l.tokens;
+    }
+    n as u32
+}
+
+// Connection p opens.
+pub fn open<'a>(
+    channels: &'a mut u8,
+    users: &'a mut u8,
+    tokens: &'a mut u8,
+    links: &'a mut u16,
+    names: &'a mut [u16; 64],
+    homes: &'a mut [u8; 64],
+    ids: &'a mut [u16; 128],
+    roles: &'a mut [u8; 128],
+    chairs: &'a mut [u8; 128],
+    guests: &'a mut [u64; 128],
+    marks: &'a mut [u16; 128],
+    keys: &'a mut [u16; 64],
+    modes: &'a mut [u8; 64],
+    values: &'a mut [u64; 64],
+    p: u8,
+) -> u32
+    ensures { λ r. ⌜ ((out : List ℕ) → settled r 0 (domain-of (limited (now (channels .exit)) (now (users .exit)) (now (tokens .exit))) (now (links .exit)) (now (names .exit)) (now (homes .exit)) (now (ids .exit)) (now (roles .exit))
+        (now (chairs .exit)) (now (guests .exit)) (now (marks .exit)) (now (keys .exit)) (now (modes .exit)) (now (values .exit))) out
+        ≡ after (domain-of (limited (now (channels .entry)) (now (users .entry)) (now (tokens .entry))) (now (links .entry)) (now (names .entry)) (now (homes .entry)) (now (ids .entry)) (now (roles .entry))
+        (now (chairs .entry)) (now (guests .entry)) (now (marks .entry)) (now (keys .entry)) (now (modes .entry)) (now (values .entry))) (opens p) out) ⌝ }
+{
+    let reply = serve_session::open(links, p);
+    reply_number(reply) as u32
+}
+
+// Connection p is lost.
+pub fn lose<'a>(
+    channels: &'a mut u8,
+    users: &'a mut u8,
+    tokens: &'a mut u8,
+    links: &'a mut u16,
+    names: &'a mut [u16; 64],
+    homes: &'a mut [u8; 64],
+    ids: &'a mut [u16; 128],
+    roles: &'a mut [u8; 128],
+    chairs: &'a mut [u8; 128],
+    guests: &'a mut [u64; 128],
+    marks: &'a mut [u16; 128],
+    keys: &'a mut [u16; 64],
+    modes: &'a mut [u8; 64],
+    values: &'a mut [u64; 64],
+    p: u8,
+    out: &mut [u8],
+) -> Answered
+    ensures { λ r. ⌜ settled (r .reply) (r .sent) (domain-of (limited (now (channels .exit)) (now (users .exit)) (now (tokens .exit))) (now (links .exit)) (now (names .exit)) (now (homes .exit)) (now (ids .exit)) (now (roles .exit))
+        (now (chairs .exit)) (now (guests .exit)) (now (marks .exit)) (now (keys .exit)) (now (modes .exit)) (now (values .exit))) (now (out .exit))
+        ≡ after (domain-of (limited (now (channels .entry)) (now (users .entry)) (now (tokens .entry))) (now (links .entry)) (now (names .entry)) (now (homes .entry)) (now (ids .entry)) (now (roles .entry))
+        (now (chairs .entry)) (now (guests .entry)) (now (marks .entry)) (now (keys .entry)) (now (modes .entry)) (now (values .entry))) (loses p) (now (out .entry)) ⌝ }
+{
+    let a = provider::lose(
+        links,
+        names,
+        homes,
+        ids,
+        roles,
+        chairs,
+        guests,
+        marks,
+        keys,
+        modes,
+        values,
+        p,
+        out,
+    );
+    numbered(a)
+}
+
+// A message on connection p: any octets.
+pub fn message<'a>(
+    channels: &'a mut u8,
+    users: &'a mut u8,
+    tokens: &'a mut u8,
+    links: &'a mut u16,
+    names: &'a mut [u16; 64],
+    homes: &'a mut [u8; 64],
+    ids: &'a mut [u16; 128],
+    roles: &'a mut [u8; 128],
+    chairs: &'a mut [u8; 128],
+    guests: &'a mut [u64; 128],
+    marks: &'a mut [u16; 128],
+    keys: &'a mut [u16; 64],
+    modes: &'a mut [u8; 64],
+    values: &'a mut [u64; 64],
+    p: u8,
+    octets: &[u8],
+    out: &mut [u8],
+) -> Answered
+    ensures { λ r. ⌜ settled (r .reply) (r .sent) (domain-of (limited (now (channels .exit)) (now (users .exit)) (now (tokens .exit))) (now (links .exit)) (now (names .exit)) (now (homes .exit)) (now (ids .exit)) (now (roles .exit))
+        (now (chairs .exit)) (now (guests .exit)) (now (marks .exit)) (now (keys .exit)) (now (modes .exit)) (now (values .exit))) (now (out .exit))
+        ≡ after (domain-of (limited (now (channels .entry)) (now (users .entry)) (now (tokens .entry))) (now (links .entry)) (now (names .entry)) (now (homes .entry)) (now (ids .entry)) (now (roles .entry))
+        (now (chairs .entry)) (now (guests .entry)) (now (marks .entry)) (now (keys .entry)) (now (modes .entry)) (now (values .entry))) (hears p (understood (now (octets .entry)))) (now (out .entry)) ⌝ }
+{
+    let limits = Limits {
+        channels: *channels,
+        users: *users,
+        tokens: *tokens,
+    };
+    let a = provider::message(
+        limits,
+        links,
+        names,
+        homes,
+        ids,
+        roles,
+        chairs,
+        guests,
+        marks,
+        keys,
+        modes,
+        values,
+        p,
+        octets,
+        out,
+    );
+    numbered(a)
+}
+
+// An answer with its reply as a number.
+fn numbered(a: Answer) -> Answered
+    ensures { λ r. ⌜ (r .reply ≡ replyNumber (a .reply)) × (r .sent ≡ a .sent) ⌝ }
+{
+    let reply = a.reply;
+    Answered {
+        reply: reply_number(reply) as u32,
+        sent: a.sent,
+    }
+}
+
+// A channel's audience.
+pub fn audience<'a>(
+    ids: &'a [u16; 128],
+    roles: &'a [u8; 128],
+    chairs: &'a [u8; 128],
+    guests: &'a [u64; 128],
+    marks: &'a [u16; 128],
+    c: u16,
+) -> u32
+    ensures { λ r. ⌜ r ≡ audienceOf (channels-of (now (ids .entry)) (now (roles .entry)) (now (chairs .entry)) (now (guests .entry)) (now (marks .entry))) c ⌝ }
+{
+    serve_session::audience(ids, roles, chairs, guests, marks, c)
+}
+
+// Users or tokens in use, by the column of their ids.
+pub fn used_of_64<'a>(ids: &'a [u16; 64]) -> usize
+    ensures { λ r. ⌜ r ≡ used (now (ids .entry)) ⌝ }
+{
+    serve_session::in_use(ids)
+}
+
+// Channels in use, by the column of their ids.
+pub fn used_of_128<'a>(ids: &'a [u16; 128]) -> usize
+    ensures { λ r. ⌜ r ≡ used (now (ids .entry)) ⌝ }
+{
+    serve_session::in_use(ids)
+}

@@ -1,0 +1,28 @@
+use borrow.Author.Needs.{needs}
+use Rattle.codec_read.proofs.ItemLaws.{item-pad, item-is}
+use Rattle.codec_octets.proofs.Reading.{ends-less}
+use Rattle.codec_read.proofs.take_number.Statement.{statement}
+use Rattle.codec_read.proofs.take_number.Tie as tie
+
+bits-at-requires : tie.Need-bits-at-requires
+bits-at-requires c κs = search needs
+
+returns : tie.Need-returns
+returns c = item-pad _ _ _ (c .before .bits-at .result) (c .before .bits-at .ensures .0) (c .if1 .taken)
+
+add-i : tie.Need-add-i
+add-i c = search needs
+
+read-number-requires : tie.Need-read-number-requires
+read-number-requires c κs = search needs
+
+in-bits-requires : tie.Need-in-bits-requires
+in-bits-requires c κs = ends-less (c .read-number .result) _ 1024 (c .read-number .ensures .inside) (search needs)
+
+returns-2 : tie.Need-returns-2
+returns-2 c = rw (c .in-bits .ensures) (item-is _ _ _ (c .before .before .before .bits-at .result) (c .before .read-number .result) (c .before .before .before .bits-at .ensures .0) (search needs) (c .before .read-number .ensures))
+
+pub take-number-spec : {M : Type 1} → statement M
+take-number-spec =
+    tie.close
+    (tie.spec bits-at-requires returns add-i read-number-requires in-bits-requires returns-2)

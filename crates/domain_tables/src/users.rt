@@ -1,0 +1,69 @@
+// Users: the id and the connection of each place.
+ghost use mathlib.Core.Path.{_≡_};
+ghost use Prim.Native.Nat.{_≤_};
+ghost use lib.ListN.{getD};
+ghost use Rattle.cols_spec.specs.Places.{number};
+ghost use Rattle.domain.specs.Tables.{users-of, attached as attachedIn, add-user, hosts as hostsOf};
+
+// The place of user u, where u is attached on p; 64 is nowhere.
+pub fn attached(names: &[u16; 64], homes: &[u8; 64], p: u8, u: u16) -> usize
+    ensures { λ r. ⌜ (r ≡ number 64 (attachedIn (users-of (now (names .entry)) (now (homes .entry))) p u)) × (r ≤ 64) ⌝ }
+{
+    let i = cols_find::find(names, u);
+    let at = &homes[..];
+    if i < at.len() {
+        if at[i] == p {
+            return i;
+        }
+    }
+    64
+}
+
+// User u, attached on p, at the spare place; where there is none nothing changes.
+pub fn add_user(names: &mut [u16; 64], homes: &mut [u8; 64], u: u16, p: u8)
+    ensures { λ _. ⌜ users-of (now (names .exit)) (now (homes .exit)) ≡ add-user (users-of (now (names .entry)) (now (homes .entry))) u p ⌝ }
+{
+    let i = cols_find::spare(names);
+    if i < 64 {
+        names[i] = u;
+        homes[i] = p;
+    }
+}
+
+// The connections that have a user of a mask of places: the lowest place is taken out of it until none is left.
+pub fn hosts(names: &[u16; 64], homes: &[u8; 64], who: u64) -> u16
+    ensures { λ r. ⌜ r ≡ hostsOf (users-of (now (names .entry)) (now (homes .entry))) who ⌝ }
+{
+    let at = &homes[..];
+    let mut m: u16 = 0;
+    let mut left = who;
+    while left != 0 {
+        let i = u64::trailing_zeros(left) as usize;
+        m = cols_masks::with_link(m, at[i]);
+        left = cols_masks::without_seat(left, i as u8);
+    }
+    m
+}
+
+// The id of the user at a place, and its connection; 0 and 16 where there is no such place.
+pub fn name_at(names: &[u16; 64], j: u8) -> u16
+    ensures { λ r. ⌜ r ≡ getD (now (names .entry)) j 0 ⌝ }
+{
+    let s = &names[..];
+    let i = j as usize;
+    if i < s.len() {
+        return s[i];
+    }
+    0
+}
+
+pub fn link_at(homes: &[u8; 64], j: u8) -> u8
+    ensures { λ r. ⌜ r ≡ getD (now (homes .entry)) j 16 ⌝ }
+{
+    let s = &homes[..];
+    let i = j as usize;
+    if i < s.len() {
+        return s[i];
+    }
+    16
+}

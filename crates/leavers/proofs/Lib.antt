@@ -1,5 +1,0 @@
--- those listed
-pub mod LeaverLaws
--- the two loops that list them
-pub mod Picking
-pub mod Gathering

@@ -1,0 +1,336 @@
+// Leaving: the users listed in a DUrq, or all those of a connection that closes. They leave together, judged on the tables before.
+ghost use mathlib.Core.Path.{_≡_};
+ghost use mathlib.Core.List.{List};
+ghost use Prim.Native.Nat.{ℕ, _%_, _≤_, _<_};
+ghost use lib.ListN.{length, take};
+ghost use Rattle.cols_spec.specs.Sets.{if_then_else_, without, once, links as allLinks};
+ghost use Rattle.cols_spec.specs.Places.{inOrder};
+ghost use Rattle.out_records.specs.Records.{records};
+ghost use Rattle.out_records.specs.Out.{Puts};
+ghost use Rattle.domain.specs.declared.Limits.{Limits};
+ghost use Rattle.domain.specs.Tables.{users-of, domain-of};
+ghost use Rattle.domain.specs.Effects.{settle, answered};
+ghost use Rattle.domain.specs.Leaving.{those-on, farewell as farewellOf, leave as leaveOf, detach as detachOf, close as closeOf};
+ghost use Rattle.serve_leave.specs.Lists.{Leaves, Adds};
+use domain::answer::Answer;
+use domain::numbers::Reason;
+use domain::numbers::Reply;
+
+// The records of those who leave, put together where there is room for them; how many octets they take: 17,200 are enough for any. A short room is
+// counted for in a first turn, in which nothing is put.
+fn say(
+    out: &mut [u8],
+    names: &[u16; 64],
+    homes: &[u8; 64],
+    ids: &[u16; 128],
+    roles: &[u8; 128],
+    chairs: &[u8; 128],
+    guests: &[u64; 128],
+    marks: &[u16; 128],
+    keys: &[u16; 64],
+    modes: &[u8; 64],
+    values: &[u64; 64],
+    gone: u64,
+    live: u16,
+    reason: u8,
+    list: &[u16; 64],
+    count: usize,
+) -> usize
+    ensures { λ r. ⌜ ((l : Limits) (links : ℕ) → (r ≡ length (records (farewellOf (domain-of l links (now (names .entry)) (now (homes .entry)) (now (ids .entry)) (now (roles .entry))
+        (now (chairs .entry)) (now (guests .entry)) (now (marks .entry)) (now (keys .entry)) (now (modes .entry)) (now (values .entry)))
+        gone live reason (take count (now (list .entry))))))
+        × (r ≤ length (now (out .entry)) → Puts (now (out .entry)) 0 (records (farewellOf (domain-of l links (now (names .entry)) (now (homes .entry)) (now (ids .entry)) (now (roles .entry))
+        (now (chairs .entry)) (now (guests .entry)) (now (marks .entry)) (now (keys .entry)) (now (modes .entry)) (now (values .entry)))
+        gone live reason (take count (now (list .entry))))) (now (out .exit)) r))
+        × (length (now (out .entry)) < r → now (out .exit) ≡ now (out .entry)) ⌝ }
+{
+    // How long the columns are: so many records at most.
+    let n = ids[..].len();
+    let m = keys[..].len();
+    let k = list[..].len();
+    let room = out.len();
+    let mut to = out_records::tried(room, 17200);
+    let mut total = 0;
+    let mut again = true;
+    while again {
+        total = serve_leave_records::farewell(
+            &mut out[..to],
+            names,
+            homes,
+            ids,
+            roles,
+            chairs,
+            guests,
+            marks,
+            keys,
+            modes,
+            values,
+            gone,
+            live,
+            reason,
+            list,
+            count,
+        );
+        again = (to < room) & (total <= room);
+        to = room;
+    }
+    total
+}
+
+// Those listed leave, and the connections `live` remain: the records, where there is room for them; then the tables.
+fn leave(
+    links: &mut u16,
+    names: &mut [u16; 64],
+    homes: &mut [u8; 64],
+    ids: &mut [u16; 128],
+    roles: &mut [u8; 128],
+    chairs: &mut [u8; 128],
+    guests: &mut [u64; 128],
+    marks: &mut [u16; 128],
+    keys: &mut [u16; 64],
+    modes: &mut [u8; 64],
+    values: &mut [u64; 64],
+    live: u16,
+    reason: u8,
+    list: &[u16; 64],
+    who: Leavers,
+    out: &mut [u8],
+) -> Answer
+    requires { ⌜ who .count ≤ 64 ⌝ }
+    ensures { λ r. ⌜ ((l : Limits) (p : ℕ) (us : List ℕ)
+        → Leaves (users-of (now (names .entry)) (now (homes .entry))) (those-on (users-of (now (names .entry)) (now (homes .entry))) p us) (now (list .entry)) who
+        → answered r (domain-of l (now (links .exit)) (now (names .exit)) (now (homes .exit)) (now (ids .exit)) (now (roles .exit))
+        (now (chairs .exit)) (now (guests .exit)) (now (marks .exit)) (now (keys .exit)) (now (modes .exit)) (now (values .exit))) (now (out .exit))
+        ≡ settle (domain-of l (now (links .entry)) (now (names .entry)) (now (homes .entry)) (now (ids .entry)) (now (roles .entry))
+        (now (chairs .entry)) (now (guests .entry)) (now (marks .entry)) (now (keys .entry)) (now (modes .entry)) (now (values .entry)))
+        (leaveOf (domain-of l (now (links .entry)) (now (names .entry)) (now (homes .entry)) (now (ids .entry)) (now (roles .entry))
+        (now (chairs .entry)) (now (guests .entry)) (now (marks .entry)) (now (keys .entry)) (now (modes .entry)) (now (values .entry)))
+        live reason (those-on (users-of (now (names .entry)) (now (homes .entry))) p us)) (now (out .entry))) ⌝ }
+{
+    // How long the column is: a place for each user.
+    let n = names[..].len();
+    let count = who.count;
+    let gone = who.seats;
+    let total = say(
+        out,
+        names,
+        homes,
+        ids,
+        roles,
+        chairs,
+        guests,
+        marks,
+        keys,
+        modes,
+        values,
+        gone,
+        live,
+        reason,
+        list,
+        count,
+    );
+    if out.len() < total {
+        return Answer {
+            reply: Reply::NoRoom,
+            sent: 0,
+        };
+    }
+    let all = &list[..];
+    serve_leave_tables::channels::leave(
+        names,
+        homes,
+        ids,
+        roles,
+        chairs,
+        guests,
+        marks,
+        &all[..count],
+        gone,
+        live,
+    );
+    serve_leave_tables::users::leave(names, homes, gone);
+    serve_leave_tables::tokens::leave(keys, modes, values, gone);
+    *links = live;
+    Answer {
+        reply: Reply::Done,
+        sent: total,
+    }
+}
+
+// Who leaves: all users of p where it closes, else those listed that are its users.
+fn who_leaves(
+    names: &[u16; 64],
+    homes: &[u8; 64],
+    closes: bool,
+    p: u8,
+    list: &mut [u16; 64],
+    count: usize,
+) -> Leavers
+    ensures { λ r. ⌜ Leaves (users-of (now (names .entry)) (now (homes .entry))) (those-on (users-of (now (names .entry)) (now (homes .entry))) p
+        (if closes then inOrder (now (names .entry)) else once (take count (now (list .entry))))) (now (list .exit)) r ⌝ }
+{
+    if closes {
+        return all_on(names, homes, p, list);
+    }
+    listed_on(names, homes, p, list, count)
+}
+
+// The connections that remain.
+fn remaining(links: u16, closes: bool, p: u8) -> u16
+    ensures { λ r. ⌜ r ≡ (if closes then without allLinks links p else links) ⌝ }
+{
+    if closes {
+        return cols_masks::without_link(links, p);
+    }
+    links
+}
+
+// The reason that is told: of a connection that closes, always the same.
+fn told(closes: bool, reason: u8) -> u8
+    ensures { λ r. ⌜ r ≡ (if closes then 0 else reason % 8) ⌝ }
+{
+    if closes {
+        return domain_state::numbers::reason_number(Reason::DomainDisconnected);
+    }
+    reason % 8
+}
+
+// DUrq on p, of the first `count` of the ids; or, where p closes, DPum, RJum and loss. One way for both, so that little stands on the stack. The
+// list lent is worked in.
+pub fn depart(
+    links: &mut u16,
+    names: &mut [u16; 64],
+    homes: &mut [u8; 64],
+    ids: &mut [u16; 128],
+    roles: &mut [u8; 128],
+    chairs: &mut [u8; 128],
+    guests: &mut [u64; 128],
+    marks: &mut [u16; 128],
+    keys: &mut [u16; 64],
+    modes: &mut [u8; 64],
+    values: &mut [u64; 64],
+    closes: bool,
+    p: u8,
+    reason: u8,
+    list: &mut [u16; 64],
+    count: usize,
+    out: &mut [u8],
+) -> Answer
+    ensures { λ r. ⌜ ((l : Limits) → answered r (domain-of l (now (links .exit)) (now (names .exit)) (now (homes .exit)) (now (ids .exit)) (now (roles .exit))
+        (now (chairs .exit)) (now (guests .exit)) (now (marks .exit)) (now (keys .exit)) (now (modes .exit)) (now (values .exit))) (now (out .exit))
+        ≡ settle (domain-of l (now (links .entry)) (now (names .entry)) (now (homes .entry)) (now (ids .entry)) (now (roles .entry))
+        (now (chairs .entry)) (now (guests .entry)) (now (marks .entry)) (now (keys .entry)) (now (modes .entry)) (now (values .entry)))
+        (if closes then closeOf (domain-of l (now (links .entry)) (now (names .entry)) (now (homes .entry)) (now (ids .entry)) (now (roles .entry))
+        (now (chairs .entry)) (now (guests .entry)) (now (marks .entry)) (now (keys .entry)) (now (modes .entry)) (now (values .entry))) p else detachOf (domain-of l (now (links .entry)) (now (names .entry)) (now (homes .entry)) (now (ids .entry)) (now (roles .entry))
+        (now (chairs .entry)) (now (guests .entry)) (now (marks .entry)) (now (keys .entry)) (now (modes .entry)) (now (values .entry))) p (reason % 8) (take count (now (list .entry)))) (now (out .entry))) ⌝ }
+{
+    let who = who_leaves(names, homes, closes, p, list, count);
+    if (who.count == 0) & !closes {
+        return Answer {
+            reply: Reply::Ignored,
+            sent: 0,
+        };
+    }
+    let live = remaining(*links, closes, p);
+    let why = told(closes, reason);
+    leave(
+        links,
+        names,
+        homes,
+        ids,
+        roles,
+        chairs,
+        guests,
+        marks,
+        keys,
+        modes,
+        values,
+        live,
+        why,
+        list,
+        who,
+        out,
+    )
+}
+
+// Who leaves: their ids in a list that is lent, and their places.
+
+// How many leave: so many ids from the list's start on. And the places of their users.
+pub struct Leavers {
+    pub count: usize,
+    pub seats: u64,
+}
+
+// User u behind those listed, where u is attached on p and not one of them: its place is not yet among theirs.
+fn add_leaver(
+    names: &[u16; 64],
+    homes: &[u8; 64],
+    p: u8,
+    u: u16,
+    list: &mut [u16; 64],
+    t: Leavers,
+) -> Leavers
+    requires { ⌜ t .count < 64 ⌝ }
+    ensures { λ r. ⌜ Adds (users-of (now (names .entry)) (now (homes .entry))) p u (now (list .entry)) t (now (list .exit)) r ⌝ }
+{
+    // How long the columns are: a place below is found, and there is room for one id more.
+    let all = names[..].len();
+    let room = list[..].len();
+    let j = domain_tables::users::attached(names, homes, p, u);
+    if j < all {
+        let seat = j as u8;
+        if !cols_masks::has(t.seats, seat) {
+            let n = t.count;
+            list[n] = u;
+            return Leavers {
+                count: n + 1,
+                seats: cols_masks::with_seat(t.seats, seat),
+            };
+        }
+    }
+    t
+}
+
+// Of the first `count` listed ids those attached on p, each once, in list order. They are kept in the list itself.
+pub fn listed_on(
+    names: &[u16; 64],
+    homes: &[u8; 64],
+    p: u8,
+    list: &mut [u16; 64],
+    count: usize,
+) -> Leavers
+    ensures { λ r. ⌜ Leaves (users-of (now (names .entry)) (now (homes .entry)))
+        (those-on (users-of (now (names .entry)) (now (homes .entry))) p (once (take count (now (list .entry))))) (now (list .exit)) r ⌝ }
+{
+    let m = cols_walk::at_most(count, list[..].len());
+    let mut t = Leavers { count: 0, seats: 0 };
+    let mut i = 0;
+    while i < m {
+        let u = list[i];
+        t = add_leaver(names, homes, p, u, list, t);
+        i += 1;
+    }
+    t
+}
+
+// The users on p, ascending.
+pub fn all_on(names: &[u16; 64], homes: &[u8; 64], p: u8, list: &mut [u16; 64]) -> Leavers
+    ensures { λ r. ⌜ Leaves (users-of (now (names .entry)) (now (homes .entry)))
+        (those-on (users-of (now (names .entry)) (now (homes .entry))) p (inOrder (now (names .entry)))) (now (list .exit)) r ⌝ }
+{
+    // How long the columns are: each user has a connection.
+    let all = homes[..].len();
+    let mut t = Leavers { count: 0, seats: 0 };
+    let mut low: u16 = 0;
+    let mut left = names[..].len();
+    while 0 < left {
+        let u = cols_walk::next_where(names, homes, p, low);
+        if u == 0 {
+            return t;
+        }
+        t = add_leaver(names, homes, p, u, list, t);
+        low = u;
+        left -= 1;
+    }
+    t
+}

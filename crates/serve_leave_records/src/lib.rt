@@ -1,0 +1,408 @@
+// The records that tell of users who leave: DUin by connection, CDin by channel, TVcf by token.
+ghost use mathlib.Core.Path.{_≡_};
+ghost use mathlib.Core.List.{List, [], _∷_, _++_};
+ghost use Prim.Native.Nat.{ℕ, _+_, _-_, _<_, _≤_};
+ghost use lib.ListN.{length, take};
+ghost use Rattle.cols_spec.specs.Sets.{if_then_else_, each, marked};
+ghost use Rattle.cols_spec.specs.Places.{next as nextIn, inOrder, picked};
+ghost use Rattle.codec_table.specs.Named.{TVcf, no-such-user};
+ghost use Rattle.out_records.specs.Records.{to, records as recordsOf};
+ghost use Rattle.out_records.specs.Out.{Puts};
+ghost use Rattle.domain.specs.declared.Limits.{Limits};
+ghost use Rattle.domain.specs.declared.token.Holding.the-variants.{Giving};
+ghost use Rattle.domain.specs.Tables.{users-of, channels-of, tokens-of, domain-of, name, link};
+ghost use Rattle.domain.specs.Tokens.{status as statusOf, lose as loseOf};
+ghost use Rattle.domain.specs.Leaving.{ended, returned, farewell as farewellOf};
+ghost use Rattle.serve_leave_records.specs.Parts.{parting, kind-at, ends-by, ends-there, end-at, return-at};
+ghost use Rattle.serve_leave_records.specs.Endings.{Marks, NextMark};
+use domain::channel::Kind;
+use domain::numbers::Result;
+use domain::token::Holding;
+use out_messages::Confirm;
+
+// DUin to the connections that remain, none where nobody leaves.
+fn put_parting(out: &mut [u8], live: u16, reason: u8, ids: &[u16]) -> usize
+    requires { ⌜ length (now ids) ≤ 64 ⌝ }
+    ensures { λ r. ⌜ (Puts (now (out .entry)) 0 (recordsOf (parting live reason (now (ids .entry)))) (now (out .exit)) r) × (r ≤ 2160) ⌝ }
+{
+    if ids.len() == 0 {
+        return 0;
+    }
+    let mut m = [0u8; 131];
+    let n = out_records::lists::detach_indication(&mut m, reason, ids);
+    out_records::tell(out, 0, live, &m[..n])
+}
+
+// The same with the first `count` of a list.
+fn put_first(out: &mut [u8], live: u16, reason: u8, list: &[u16; 64], count: usize) -> usize
+    ensures { λ r. ⌜ (Puts (now (out .entry)) 0 (recordsOf (parting live reason (take count (now (list .entry))))) (now (out .exit)) r) × (r ≤ 2160) ⌝ }
+{
+    let all = &list[..];
+    let n = cols_walk::at_most(count, all.len());
+    put_parting(out, live, reason, &all[..n])
+}
+
+// The kind of channel c.
+fn kind_of(
+    ids: &[u16; 128],
+    roles: &[u8; 128],
+    chairs: &[u8; 128],
+    guests: &[u64; 128],
+    marks: &[u16; 128],
+    c: u16,
+) -> Kind
+    ensures { λ r. ⌜ r ≡ kind-at (channels-of (now (ids .entry)) (now (roles .entry)) (now (chairs .entry)) (now (guests .entry)) (now (marks .entry))) c ⌝ }
+{
+    // How long the columns are: behind the last place a channel is blank.
+    let n = ids[..].len();
+    let m = roles[..].len();
+    let j = cols_find::find(ids, c);
+    domain_state::channel::kind_of(domain_tables::channels::channel_at(
+        roles,
+        chairs,
+        guests,
+        marks,
+        j,
+    ))
+}
+
+// CDin to those that remain of the connections that held the manager g or an admitted user.
+fn put_ended(
+    out: &mut [u8],
+    at: usize,
+    names: &[u16; 64],
+    homes: &[u8; 64],
+    gone: u64,
+    live: u16,
+    c: u16,
+    k: Kind,
+) -> usize
+    requires { ⌜ at ≤ 65535 ⌝ }
+    ensures { λ r. ⌜ Puts (now (out .entry)) at (recordsOf (ended (users-of (now (names .entry)) (now (homes .entry))) gone live c k)) (now (out .exit)) r ⌝ }
+{
+    match k {
+        Kind::Private(g, guests) => {
+            if cols_masks::has(gone, g) {
+                let held = domain_tables::users::hosts(
+                    names,
+                    homes,
+                    cols_masks::with_seat(guests, g),
+                );
+                let told = cols_masks::common_links(held, live);
+                let m = out_messages::disband_indication(c);
+                return out_records::tell(out, at, told, &m);
+            }
+            at
+        }
+        Kind::Static => at,
+        Kind::User => at,
+        Kind::Assigned => at,
+    }
+}
+
+// A channel of this role and manager's place ends. Both are looked at, with no branch between them.
+fn ends(role: u8, chair: u8, gone: u64) -> bool
+    ensures { λ r. ⌜ r ≡ ends-by gone role chair ⌝ }
+{
+    (role == 3) & cols_masks::has(gone, chair)
+}
+
+// The channels that end, as marks of their ids: 1001 to 1064, and 1065 to 1128. Ids are given out from 1001 on, so that no other is met; yet
+// any contents are taken.
+struct Ending {
+    low: u64,
+    high: u64,
+    beyond: bool,
+}
+
+// The id of a channel, where it ends; 0 is none. A choice, and no branch.
+fn if_ends(ends: bool, c: u16) -> u16
+    ensures { λ r. ⌜ r ≡ (if ends then c else 0) ⌝ }
+{
+    if ends { c } else { 0 }
+}
+
+// With channel c; 0 is none.
+fn with_end(e: Ending, c: u16) -> Ending
+    ensures { λ r. ⌜ ((xs : List ℕ) → Marks xs e → Marks (xs ++ c ∷ []) r) ⌝ }
+{
+    Ending {
+        low: cols_masks::all_seats(e.low, cols_walk::mark(1000, c)),
+        high: cols_masks::all_seats(e.high, cols_walk::mark(1064, c)),
+        beyond: e.beyond | ((0 < c) & ((c < 1001) | (1128 < c))),
+    }
+}
+
+// The channels that end. Only a private channel, role 3, can end.
+fn find_ends(ids: &[u16; 128], roles: &[u8; 128], chairs: &[u8; 128], gone: u64) -> Ending
+    ensures { λ r. ⌜ Marks (picked (ends-there gone (now (roles .entry)) (now (chairs .entry))) 0 (now (ids .entry))) r ⌝ }
+{
+    // How long the column is: a role for each id.
+    let all = ids[..].len();
+    let mut e = Ending {
+        low: 0,
+        high: 0,
+        beyond: false,
+    };
+    let mut j = cols_walk::cell_from(roles, 0, 3);
+    while j < 128 {
+        e = with_end(e, if_ends(ends(roles[j], chairs[j], gone), ids[j]));
+        j = cols_walk::cell_from(roles, j + 1, 3);
+    }
+    e
+}
+
+// The first number from `from` on that either mask has, the second from 64 on; 128 where there is none.
+fn next_mark(low: u64, high: u64, from: usize) -> usize
+    ensures { λ r. ⌜ ((xs : List ℕ) → low ≡ marked 1000 xs → high ≡ marked 1064 xs → NextMark xs from r) ⌝ }
+{
+    let q = cols_masks::next_in(low, from);
+    if q < 64 {
+        return q;
+    }
+    if from < 64 {
+        return 64 + cols_masks::next_in(high, 0);
+    }
+    64 + cols_masks::next_in(high, from - 64)
+}
+
+// How far an id stands behind 1000; 0 where it does not.
+fn above(x: u16) -> usize
+    ensures { λ r. ⌜ r ≡ x - 1000 ⌝ }
+{
+    if x < 1000 { 0 } else { (x - 1000) as usize }
+}
+
+// The least id above `low` of the channels that end, or 0: by their marks, or else of all channels.
+fn next_end(ids: &[u16; 128], e: Ending, low: u16) -> u16
+    ensures { λ r. ⌜ ((xs : List ℕ) → Marks xs e → r ≡ nextIn low 0 (if e .beyond then now (ids .entry) else xs)) ⌝ }
+{
+    if e.beyond {
+        return cols_walk::next(ids, low);
+    }
+    let q = next_mark(e.low, e.high, above(low));
+    if q < 128 { 1001 + q as u16 } else { 0 }
+}
+
+// CDin for each channel that ends, ascending.
+fn put_ends(
+    out: &mut [u8],
+    from: usize,
+    names: &[u16; 64],
+    homes: &[u8; 64],
+    ids: &[u16; 128],
+    roles: &[u8; 128],
+    chairs: &[u8; 128],
+    guests: &[u64; 128],
+    marks: &[u16; 128],
+    gone: u64,
+    live: u16,
+) -> usize
+    requires { ⌜ from ≤ 4096 ⌝ }
+    ensures { λ r. ⌜ (Puts (now (out .entry)) from (recordsOf (each (end-at (users-of (now (names .entry)) (now (homes .entry)))
+        (channels-of (now (ids .entry)) (now (roles .entry)) (now (chairs .entry)) (now (guests .entry)) (now (marks .entry))) gone live)
+        (inOrder (now (ids .entry))))) (now (out .exit)) r) × (r ≤ from + 14336) ⌝ }
+{
+    let e = find_ends(ids, roles, chairs, gone);
+    let mut at = from;
+    let mut low: u16 = 0;
+    let mut left = ids[..].len();
+    while 0 < left {
+        let c = next_end(ids, e, low);
+        if c == 0 {
+            return at;
+        }
+        let k = kind_of(ids, roles, chairs, guests, marks, c);
+        at = put_ended(out, at, names, homes, gone, live, c, k);
+        low = c;
+        left -= 1;
+    }
+    at
+}
+
+// The same; most often no channel is private, role 3, and none ends.
+fn put_any_ends(
+    out: &mut [u8],
+    from: usize,
+    names: &[u16; 64],
+    homes: &[u8; 64],
+    ids: &[u16; 128],
+    roles: &[u8; 128],
+    chairs: &[u8; 128],
+    guests: &[u64; 128],
+    marks: &[u16; 128],
+    gone: u64,
+    live: u16,
+) -> usize
+    requires { ⌜ from ≤ 4096 ⌝ }
+    ensures { λ r. ⌜ (Puts (now (out .entry)) from (recordsOf (each (end-at (users-of (now (names .entry)) (now (homes .entry)))
+        (channels-of (now (ids .entry)) (now (roles .entry)) (now (chairs .entry)) (now (guests .entry)) (now (marks .entry))) gone live)
+        (inOrder (now (ids .entry))))) (now (out .exit)) r) × (r ≤ from + 14336) ⌝ }
+{
+    if cols_walk::any_is(roles, 3) {
+        return put_ends(
+            out,
+            from,
+            names,
+            homes,
+            ids,
+            roles,
+            chairs,
+            guests,
+            marks,
+            gone,
+            live,
+        );
+    }
+    from
+}
+
+// TVcf no-such-user to the giver g.
+fn put_refusal(
+    out: &mut [u8],
+    at: usize,
+    names: &[u16; 64],
+    homes: &[u8; 64],
+    gone: u64,
+    k: u16,
+    g: u8,
+    r: u8,
+) -> usize
+    requires { ⌜ at ≤ 65535 ⌝ }
+    ensures { λ n. ⌜ Puts (now (out .entry)) at (recordsOf (to (link (users-of (now (names .entry)) (now (homes .entry))) g)
+        (TVcf no-such-user (name (users-of (now (names .entry)) (now (homes .entry))) g) k (statusOf (loseOf gone (Giving g r)) g)) ∷ [])) (now (out .exit)) n ⌝ }
+{
+    let h = domain_state::token::lose(gone, Holding::Giving(g, r));
+    let s = domain_state::numbers::status_number(domain_state::token::status(h, g));
+    let n = domain_state::numbers::result_number(Result::NoSuchUser);
+    let m = out_messages::token_confirm(
+        Confirm::Give,
+        n,
+        domain_tables::users::name_at(names, g),
+        k,
+        s,
+    );
+    out_records::send(out, at, domain_tables::users::link_at(homes, g), &m)
+}
+
+// The same where the recipient leaves and the giver stays.
+fn put_returned(
+    out: &mut [u8],
+    at: usize,
+    names: &[u16; 64],
+    homes: &[u8; 64],
+    gone: u64,
+    k: u16,
+    h: Holding,
+) -> usize
+    requires { ⌜ at ≤ 65535 ⌝ }
+    ensures { λ r. ⌜ Puts (now (out .entry)) at (recordsOf (returned (users-of (now (names .entry)) (now (homes .entry))) gone k h)) (now (out .exit)) r ⌝ }
+{
+    match h {
+        Holding::Giving(g, r) => {
+            if cols_masks::has(gone, r) {
+                if cols_masks::has(gone, g) {
+                    return at;
+                }
+                return put_refusal(out, at, names, homes, gone, k, g, r);
+            }
+            at
+        }
+        Holding::Free => at,
+        Holding::Grabbed(_) => at,
+        Holding::Inhibited(_) => at,
+        Holding::Given(_) => at,
+    }
+}
+
+// TVcf for each token that returns to its giver, ascending.
+fn put_returns(
+    out: &mut [u8],
+    from: usize,
+    names: &[u16; 64],
+    homes: &[u8; 64],
+    keys: &[u16; 64],
+    modes: &[u8; 64],
+    values: &[u64; 64],
+    gone: u64,
+) -> usize
+    requires { ⌜ from ≤ 32768 ⌝ }
+    ensures { λ r. ⌜ Puts (now (out .entry)) from (recordsOf (each (return-at (users-of (now (names .entry)) (now (homes .entry)))
+        (tokens-of (now (keys .entry)) (now (modes .entry)) (now (values .entry))) gone) (inOrder (now (keys .entry))))) (now (out .exit)) r ⌝ }
+{
+    let mut at = from;
+    let mut low: u16 = 0;
+    let mut left = keys[..].len();
+    while 0 < left {
+        let k = cols_walk::next_where(keys, modes, 3, low);
+        if k == 0 {
+            return at;
+        }
+        let h = domain_tables::tokens::state(keys, modes, values, k);
+        at = put_returned(out, at, names, homes, gone, k, h);
+        low = k;
+        left -= 1;
+    }
+    at
+}
+
+// The same; most often no token is being given, mode 3.
+fn put_any_returns(
+    out: &mut [u8],
+    from: usize,
+    names: &[u16; 64],
+    homes: &[u8; 64],
+    keys: &[u16; 64],
+    modes: &[u8; 64],
+    values: &[u64; 64],
+    gone: u64,
+) -> usize
+    requires { ⌜ from ≤ 32768 ⌝ }
+    ensures { λ r. ⌜ Puts (now (out .entry)) from (recordsOf (each (return-at (users-of (now (names .entry)) (now (homes .entry)))
+        (tokens-of (now (keys .entry)) (now (modes .entry)) (now (values .entry))) gone) (inOrder (now (keys .entry))))) (now (out .exit)) r ⌝ }
+{
+    if cols_walk::any_is(modes, 3) {
+        return put_returns(out, from, names, homes, keys, modes, values, gone);
+    }
+    from
+}
+
+// The users at the places `gone` leave and the connections `live` remain: DUin with the first `count` of the ids, then CDin, then TVcf.
+pub fn farewell(
+    out: &mut [u8],
+    names: &[u16; 64],
+    homes: &[u8; 64],
+    ids: &[u16; 128],
+    roles: &[u8; 128],
+    chairs: &[u8; 128],
+    guests: &[u64; 128],
+    marks: &[u16; 128],
+    keys: &[u16; 64],
+    modes: &[u8; 64],
+    values: &[u64; 64],
+    gone: u64,
+    live: u16,
+    reason: u8,
+    list: &[u16; 64],
+    count: usize,
+) -> usize
+    ensures { λ r. ⌜ ((l : Limits) → (links : ℕ) → Puts (now (out .entry)) 0 (recordsOf (farewellOf (domain-of l links (now (names .entry)) (now (homes .entry))
+        (now (ids .entry)) (now (roles .entry)) (now (chairs .entry)) (now (guests .entry)) (now (marks .entry))
+        (now (keys .entry)) (now (modes .entry)) (now (values .entry))) gone live reason (take count (now (list .entry))))) (now (out .exit)) r) ⌝ }
+{
+    let a = put_first(out, live, reason, list, count);
+    let b = put_any_ends(
+        out,
+        a,
+        names,
+        homes,
+        ids,
+        roles,
+        chairs,
+        guests,
+        marks,
+        gone,
+        live,
+    );
+    put_any_returns(out, b, names, homes, keys, modes, values, gone)
+}
