@@ -26,43 +26,43 @@ pub fn start<'a>(
     users: &'a mut u8,
     tokens: &'a mut u8,
     links: &'a mut u16,
-    names: &'a mut [u16; 64],
-    homes: &'a mut [u8; 64],
-    ids: &'a mut [u16; 128],
-    roles: &'a mut [u8; 128],
-    chairs: &'a mut [u8; 128],
-    guests: &'a mut [u64; 128],
-    marks: &'a mut [u16; 128],
-    keys: &'a mut [u16; 64],
-    modes: &'a mut [u8; 64],
-    values: &'a mut [u64; 64],
+    user_ids: &'a mut [u16; 64],
+    user_links: &'a mut [u8; 64],
+    channel_ids: &'a mut [u16; 128],
+    channel_kinds: &'a mut [u8; 128],
+    managers: &'a mut [u8; 128],
+    admitted: &'a mut [u64; 128],
+    joined: &'a mut [u16; 128],
+    token_ids: &'a mut [u16; 64],
+    token_states: &'a mut [u8; 64],
+    token_values: &'a mut [u64; 64],
     most_channels: u32,
     most_users: u32,
     most_tokens: u32,
 ) -> u32
     ensures { λ r. ⌜ _≡_ {A = ℕ × Domain} (
       r,
-      domain-of (limited (now (channels .exit)) (now (users .exit)) (now (tokens .exit))) (now (links .exit)) (now (names .exit)) (now (homes .exit)) (now (ids .exit)) (now (roles .exit))
-          (now (chairs .exit)) (now (guests .exit)) (now (marks .exit)) (now (keys .exit)) (now (modes .exit)) (now (values .exit)),
+      domain-of (limited (now (channels .exit)) (now (users .exit)) (now (tokens .exit))) (now (links .exit)) (now («user_ids» .exit)) (now («user_links» .exit)) (now («channel_ids» .exit)) (now («channel_kinds» .exit))
+          (now (managers .exit)) (now (admitted .exit)) (now (joined .exit)) (now («token_ids» .exit)) (now («token_states» .exit)) (now («token_values» .exit)),
     )
-        (begun «most_channels» «most_users» «most_tokens» (domain-of (limited (now (channels .entry)) (now (users .entry)) (now (tokens .entry))) (now (links .entry)) (now (names .entry)) (now (homes .entry)) (now (ids .entry)) (now (roles .entry))
-        (now (chairs .entry)) (now (guests .entry)) (now (marks .entry)) (now (keys .entry)) (now (modes .entry)) (now (values .entry)))) ⌝ }
+        (begun «most_channels» «most_users» «most_tokens» (domain-of (limited (now (channels .entry)) (now (users .entry)) (now (tokens .entry))) (now (links .entry)) (now («user_ids» .entry)) (now («user_links» .entry)) (now («channel_ids» .entry)) (now («channel_kinds» .entry))
+        (now (managers .entry)) (now (admitted .entry)) (now (joined .entry)) (now («token_ids» .entry)) (now («token_states» .entry)) (now («token_values» .entry)))) ⌝ }
 {
     let s = serve_session::start(
         most_channels,
         most_users,
         most_tokens,
         links,
-        names,
-        homes,
-        ids,
-        roles,
-        chairs,
-        guests,
-        marks,
-        keys,
-        modes,
-        values,
+        user_ids,
+        user_links,
+        channel_ids,
+        channel_kinds,
+        managers,
+        admitted,
+        joined,
+        token_ids,
+        token_states,
+        token_values,
     );
     let reply = s.reply;
     let n = reply_number(reply);
@@ -81,22 +81,22 @@ pub fn open<'a>(
     users: &'a mut u8,
     tokens: &'a mut u8,
     links: &'a mut u16,
-    names: &'a mut [u16; 64],
-    homes: &'a mut [u8; 64],
-    ids: &'a mut [u16; 128],
-    roles: &'a mut [u8; 128],
-    chairs: &'a mut [u8; 128],
-    guests: &'a mut [u64; 128],
-    marks: &'a mut [u16; 128],
-    keys: &'a mut [u16; 64],
-    modes: &'a mut [u8; 64],
-    values: &'a mut [u64; 64],
+    user_ids: &'a mut [u16; 64],
+    user_links: &'a mut [u8; 64],
+    channel_ids: &'a mut [u16; 128],
+    channel_kinds: &'a mut [u8; 128],
+    managers: &'a mut [u8; 128],
+    admitted: &'a mut [u64; 128],
+    joined: &'a mut [u16; 128],
+    token_ids: &'a mut [u16; 64],
+    token_states: &'a mut [u8; 64],
+    token_values: &'a mut [u64; 64],
     p: u8,
 ) -> u32
-    ensures { λ r. ⌜ ((out : List ℕ) → settled r 0 (domain-of (limited (now (channels .exit)) (now (users .exit)) (now (tokens .exit))) (now (links .exit)) (now (names .exit)) (now (homes .exit)) (now (ids .exit)) (now (roles .exit))
-        (now (chairs .exit)) (now (guests .exit)) (now (marks .exit)) (now (keys .exit)) (now (modes .exit)) (now (values .exit))) out
-        ≡ after (domain-of (limited (now (channels .entry)) (now (users .entry)) (now (tokens .entry))) (now (links .entry)) (now (names .entry)) (now (homes .entry)) (now (ids .entry)) (now (roles .entry))
-        (now (chairs .entry)) (now (guests .entry)) (now (marks .entry)) (now (keys .entry)) (now (modes .entry)) (now (values .entry))) (opens p) out) ⌝ }
+    ensures { λ r. ⌜ ((out : List ℕ) → settled r 0 (domain-of (limited (now (channels .exit)) (now (users .exit)) (now (tokens .exit))) (now (links .exit)) (now («user_ids» .exit)) (now («user_links» .exit)) (now («channel_ids» .exit)) (now («channel_kinds» .exit))
+        (now (managers .exit)) (now (admitted .exit)) (now (joined .exit)) (now («token_ids» .exit)) (now («token_states» .exit)) (now («token_values» .exit))) out
+        ≡ after (domain-of (limited (now (channels .entry)) (now (users .entry)) (now (tokens .entry))) (now (links .entry)) (now («user_ids» .entry)) (now («user_links» .entry)) (now («channel_ids» .entry)) (now («channel_kinds» .entry))
+        (now (managers .entry)) (now (admitted .entry)) (now (joined .entry)) (now («token_ids» .entry)) (now («token_states» .entry)) (now («token_values» .entry))) (opens p) out) ⌝ }
 {
     let reply = serve_session::open(links, p);
     reply_number(reply) as u32
@@ -108,36 +108,36 @@ pub fn lose<'a>(
     users: &'a mut u8,
     tokens: &'a mut u8,
     links: &'a mut u16,
-    names: &'a mut [u16; 64],
-    homes: &'a mut [u8; 64],
-    ids: &'a mut [u16; 128],
-    roles: &'a mut [u8; 128],
-    chairs: &'a mut [u8; 128],
-    guests: &'a mut [u64; 128],
-    marks: &'a mut [u16; 128],
-    keys: &'a mut [u16; 64],
-    modes: &'a mut [u8; 64],
-    values: &'a mut [u64; 64],
+    user_ids: &'a mut [u16; 64],
+    user_links: &'a mut [u8; 64],
+    channel_ids: &'a mut [u16; 128],
+    channel_kinds: &'a mut [u8; 128],
+    managers: &'a mut [u8; 128],
+    admitted: &'a mut [u64; 128],
+    joined: &'a mut [u16; 128],
+    token_ids: &'a mut [u16; 64],
+    token_states: &'a mut [u8; 64],
+    token_values: &'a mut [u64; 64],
     p: u8,
     out: &mut [u8],
 ) -> Answered
-    ensures { λ r. ⌜ settled (r .reply) (r .sent) (domain-of (limited (now (channels .exit)) (now (users .exit)) (now (tokens .exit))) (now (links .exit)) (now (names .exit)) (now (homes .exit)) (now (ids .exit)) (now (roles .exit))
-        (now (chairs .exit)) (now (guests .exit)) (now (marks .exit)) (now (keys .exit)) (now (modes .exit)) (now (values .exit))) (now (out .exit))
-        ≡ after (domain-of (limited (now (channels .entry)) (now (users .entry)) (now (tokens .entry))) (now (links .entry)) (now (names .entry)) (now (homes .entry)) (now (ids .entry)) (now (roles .entry))
-        (now (chairs .entry)) (now (guests .entry)) (now (marks .entry)) (now (keys .entry)) (now (modes .entry)) (now (values .entry))) (loses p) (now (out .entry)) ⌝ }
+    ensures { λ r. ⌜ settled (r .reply) (r .sent) (domain-of (limited (now (channels .exit)) (now (users .exit)) (now (tokens .exit))) (now (links .exit)) (now («user_ids» .exit)) (now («user_links» .exit)) (now («channel_ids» .exit)) (now («channel_kinds» .exit))
+        (now (managers .exit)) (now (admitted .exit)) (now (joined .exit)) (now («token_ids» .exit)) (now («token_states» .exit)) (now («token_values» .exit))) (now (out .exit))
+        ≡ after (domain-of (limited (now (channels .entry)) (now (users .entry)) (now (tokens .entry))) (now (links .entry)) (now («user_ids» .entry)) (now («user_links» .entry)) (now («channel_ids» .entry)) (now («channel_kinds» .entry))
+        (now (managers .entry)) (now (admitted .entry)) (now (joined .entry)) (now («token_ids» .entry)) (now («token_states» .entry)) (now («token_values» .entry))) (loses p) (now (out .entry)) ⌝ }
 {
     let a = provider::lose(
         links,
-        names,
-        homes,
-        ids,
-        roles,
-        chairs,
-        guests,
-        marks,
-        keys,
-        modes,
-        values,
+        user_ids,
+        user_links,
+        channel_ids,
+        channel_kinds,
+        managers,
+        admitted,
+        joined,
+        token_ids,
+        token_states,
+        token_values,
         p,
         out,
     );
@@ -150,24 +150,24 @@ pub fn message<'a>(
     users: &'a mut u8,
     tokens: &'a mut u8,
     links: &'a mut u16,
-    names: &'a mut [u16; 64],
-    homes: &'a mut [u8; 64],
-    ids: &'a mut [u16; 128],
-    roles: &'a mut [u8; 128],
-    chairs: &'a mut [u8; 128],
-    guests: &'a mut [u64; 128],
-    marks: &'a mut [u16; 128],
-    keys: &'a mut [u16; 64],
-    modes: &'a mut [u8; 64],
-    values: &'a mut [u64; 64],
+    user_ids: &'a mut [u16; 64],
+    user_links: &'a mut [u8; 64],
+    channel_ids: &'a mut [u16; 128],
+    channel_kinds: &'a mut [u8; 128],
+    managers: &'a mut [u8; 128],
+    admitted: &'a mut [u64; 128],
+    joined: &'a mut [u16; 128],
+    token_ids: &'a mut [u16; 64],
+    token_states: &'a mut [u8; 64],
+    token_values: &'a mut [u64; 64],
     p: u8,
     octets: &[u8],
     out: &mut [u8],
 ) -> Answered
-    ensures { λ r. ⌜ settled (r .reply) (r .sent) (domain-of (limited (now (channels .exit)) (now (users .exit)) (now (tokens .exit))) (now (links .exit)) (now (names .exit)) (now (homes .exit)) (now (ids .exit)) (now (roles .exit))
-        (now (chairs .exit)) (now (guests .exit)) (now (marks .exit)) (now (keys .exit)) (now (modes .exit)) (now (values .exit))) (now (out .exit))
-        ≡ after (domain-of (limited (now (channels .entry)) (now (users .entry)) (now (tokens .entry))) (now (links .entry)) (now (names .entry)) (now (homes .entry)) (now (ids .entry)) (now (roles .entry))
-        (now (chairs .entry)) (now (guests .entry)) (now (marks .entry)) (now (keys .entry)) (now (modes .entry)) (now (values .entry))) (hears p (understood (now (octets .entry)))) (now (out .entry)) ⌝ }
+    ensures { λ r. ⌜ settled (r .reply) (r .sent) (domain-of (limited (now (channels .exit)) (now (users .exit)) (now (tokens .exit))) (now (links .exit)) (now («user_ids» .exit)) (now («user_links» .exit)) (now («channel_ids» .exit)) (now («channel_kinds» .exit))
+        (now (managers .exit)) (now (admitted .exit)) (now (joined .exit)) (now («token_ids» .exit)) (now («token_states» .exit)) (now («token_values» .exit))) (now (out .exit))
+        ≡ after (domain-of (limited (now (channels .entry)) (now (users .entry)) (now (tokens .entry))) (now (links .entry)) (now («user_ids» .entry)) (now («user_links» .entry)) (now («channel_ids» .entry)) (now («channel_kinds» .entry))
+        (now (managers .entry)) (now (admitted .entry)) (now (joined .entry)) (now («token_ids» .entry)) (now («token_states» .entry)) (now («token_values» .entry))) (hears p (understood (now (octets .entry)))) (now (out .entry)) ⌝ }
 {
     let limits = Limits {
         channels: *channels,
@@ -177,16 +177,16 @@ pub fn message<'a>(
     let a = provider::message(
         limits,
         links,
-        names,
-        homes,
-        ids,
-        roles,
-        chairs,
-        guests,
-        marks,
-        keys,
-        modes,
-        values,
+        user_ids,
+        user_links,
+        channel_ids,
+        channel_kinds,
+        managers,
+        admitted,
+        joined,
+        token_ids,
+        token_states,
+        token_values,
         p,
         octets,
         out,
@@ -207,16 +207,16 @@ fn numbered(a: Answer) -> Answered
 
 // A channel's audience.
 pub fn audience<'a>(
-    ids: &'a [u16; 128],
-    roles: &'a [u8; 128],
-    chairs: &'a [u8; 128],
-    guests: &'a [u64; 128],
-    marks: &'a [u16; 128],
+    channel_ids: &'a [u16; 128],
+    channel_kinds: &'a [u8; 128],
+    managers: &'a [u8; 128],
+    admitted: &'a [u64; 128],
+    joined: &'a [u16; 128],
     c: u16,
 ) -> u32
-    ensures { λ r. ⌜ r ≡ audienceOf (channels-of (now (ids .entry)) (now (roles .entry)) (now (chairs .entry)) (now (guests .entry)) (now (marks .entry))) c ⌝ }
+    ensures { λ r. ⌜ r ≡ audienceOf (channels-of (now («channel_ids» .entry)) (now («channel_kinds» .entry)) (now (managers .entry)) (now (admitted .entry)) (now (joined .entry))) c ⌝ }
 {
-    serve_session::audience(ids, roles, chairs, guests, marks, c)
+    serve_session::audience(channel_ids, channel_kinds, managers, admitted, joined, c)
 }
 
 // Users or tokens in use, by the column of their ids.
@@ -227,8 +227,8 @@ pub fn used_of_64<'a>(ids: &'a [u16; 64]) -> usize
 }
 
 // Channels in use, by the column of their ids.
-pub fn used_of_128<'a>(ids: &'a [u16; 128]) -> usize
-    ensures { λ r. ⌜ r ≡ used (now (ids .entry)) ⌝ }
+pub fn used_of_128<'a>(channel_ids: &'a [u16; 128]) -> usize
+    ensures { λ r. ⌜ r ≡ used (now («channel_ids» .entry)) ⌝ }
 {
-    serve_session::in_use(ids)
+    serve_session::in_use(channel_ids)
 }

@@ -7,18 +7,18 @@ use domain::channel::Channel;
 
 // What stands at place j; a blank where there is no such place.
 pub fn channel_at(
-    roles: &[u8; 128],
-    chairs: &[u8; 128],
-    guests: &[u64; 128],
-    marks: &[u16; 128],
+    channel_kinds: &[u8; 128],
+    managers: &[u8; 128],
+    admitted: &[u64; 128],
+    joined: &[u16; 128],
     j: usize,
 ) -> Channel
-    ensures { λ r. ⌜ r ≡ getD (channel-cells (now (roles .entry)) (now (chairs .entry)) (now (guests .entry)) (now (marks .entry))) j no-channel ⌝ }
+    ensures { λ r. ⌜ r ≡ getD (channel-cells (now («channel_kinds» .entry)) (now (managers .entry)) (now (admitted .entry)) (now (joined .entry))) j no-channel ⌝ }
 {
-    let rs = &roles[..];
-    let cs = &chairs[..];
-    let gs = &guests[..];
-    let ms = &marks[..];
+    let rs = &channel_kinds[..];
+    let cs = &managers[..];
+    let gs = &admitted[..];
+    let ms = &joined[..];
     if j < rs.len() {
         return Channel {
             role: rs[j],
@@ -37,61 +37,61 @@ pub fn channel_at(
 
 // Channel ch at place j; where there is no such place nothing changes.
 pub fn set_channel(
-    roles: &mut [u8; 128],
-    chairs: &mut [u8; 128],
-    guests: &mut [u64; 128],
-    marks: &mut [u16; 128],
+    channel_kinds: &mut [u8; 128],
+    managers: &mut [u8; 128],
+    admitted: &mut [u64; 128],
+    joined: &mut [u16; 128],
     j: usize,
     ch: Channel,
 )
-    ensures { λ _. ⌜ channel-cells (now (roles .exit)) (now (chairs .exit)) (now (guests .exit)) (now (marks .exit))
-        ≡ set (channel-cells (now (roles .entry)) (now (chairs .entry)) (now (guests .entry)) (now (marks .entry))) j ch ⌝ }
+    ensures { λ _. ⌜ channel-cells (now («channel_kinds» .exit)) (now (managers .exit)) (now (admitted .exit)) (now (joined .exit))
+        ≡ set (channel-cells (now («channel_kinds» .entry)) (now (managers .entry)) (now (admitted .entry)) (now (joined .entry))) j ch ⌝ }
 {
-    if j < roles[..].len() {
-        roles[j] = ch.role;
-        chairs[j] = ch.chair;
-        guests[j] = ch.guests;
-        marks[j] = ch.marks;
+    if j < channel_kinds[..].len() {
+        channel_kinds[j] = ch.role;
+        managers[j] = ch.chair;
+        admitted[j] = ch.guests;
+        joined[j] = ch.marks;
     }
 }
 
 // Channel c at the spare place; where there is none nothing changes.
 pub fn add_channel(
-    ids: &mut [u16; 128],
-    roles: &mut [u8; 128],
-    chairs: &mut [u8; 128],
-    guests: &mut [u64; 128],
-    marks: &mut [u16; 128],
+    channel_ids: &mut [u16; 128],
+    channel_kinds: &mut [u8; 128],
+    managers: &mut [u8; 128],
+    admitted: &mut [u64; 128],
+    joined: &mut [u16; 128],
     c: u16,
     ch: Channel,
 )
-    ensures { λ _. ⌜ channels-of (now (ids .exit)) (now (roles .exit)) (now (chairs .exit)) (now (guests .exit)) (now (marks .exit))
-        ≡ add-channel (channels-of (now (ids .entry)) (now (roles .entry)) (now (chairs .entry)) (now (guests .entry)) (now (marks .entry))) c ch ⌝ }
+    ensures { λ _. ⌜ channels-of (now («channel_ids» .exit)) (now («channel_kinds» .exit)) (now (managers .exit)) (now (admitted .exit)) (now (joined .exit))
+        ≡ add-channel (channels-of (now («channel_ids» .entry)) (now («channel_kinds» .entry)) (now (managers .entry)) (now (admitted .entry)) (now (joined .entry))) c ch ⌝ }
 {
-    let j = cols_find::spare(ids);
+    let j = cols_find::spare(channel_ids);
     if j < 128 {
-        ids[j] = c;
-        set_channel(roles, chairs, guests, marks, j, ch);
+        channel_ids[j] = c;
+        set_channel(channel_kinds, managers, admitted, joined, j, ch);
     }
 }
 
 // The channel at place j ends.
 pub fn end_channel(
-    ids: &mut [u16; 128],
-    roles: &mut [u8; 128],
-    chairs: &mut [u8; 128],
-    guests: &mut [u64; 128],
-    marks: &mut [u16; 128],
+    channel_ids: &mut [u16; 128],
+    channel_kinds: &mut [u8; 128],
+    managers: &mut [u8; 128],
+    admitted: &mut [u64; 128],
+    joined: &mut [u16; 128],
     j: usize,
 )
-    ensures { λ _. ⌜ channels-of (now (ids .exit)) (now (roles .exit)) (now (chairs .exit)) (now (guests .exit)) (now (marks .exit))
-        ≡ end-channel (channels-of (now (ids .entry)) (now (roles .entry)) (now (chairs .entry)) (now (guests .entry)) (now (marks .entry))) j ⌝ }
+    ensures { λ _. ⌜ channels-of (now («channel_ids» .exit)) (now («channel_kinds» .exit)) (now (managers .exit)) (now (admitted .exit)) (now (joined .exit))
+        ≡ end-channel (channels-of (now («channel_ids» .entry)) (now («channel_kinds» .entry)) (now (managers .entry)) (now (admitted .entry)) (now (joined .entry))) j ⌝ }
 {
     set_channel(
-        roles,
-        chairs,
-        guests,
-        marks,
+        channel_kinds,
+        managers,
+        admitted,
+        joined,
         j,
         Channel {
             role: 0,
@@ -100,7 +100,7 @@ pub fn end_channel(
             marks: 0,
         },
     );
-    if j < ids[..].len() {
-        ids[j] = 0;
+    if j < channel_ids[..].len() {
+        channel_ids[j] = 0;
     }
 }

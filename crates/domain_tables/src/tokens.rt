@@ -9,11 +9,11 @@ use domain::token::Holding;
 use domain::token::Token;
 
 // The state of the token at place i; where there is no such place it is free.
-pub fn state_at(modes: &[u8; 64], values: &[u64; 64], i: usize) -> Holding
-    ensures { λ r. ⌜ r ≡ hold (load (token-cells (now (modes .entry)) (now (values .entry))) (place 64 i) no-token) ⌝ }
+pub fn state_at(token_states: &[u8; 64], token_values: &[u64; 64], i: usize) -> Holding
+    ensures { λ r. ⌜ r ≡ hold (load (token-cells (now («token_states» .entry)) (now («token_values» .entry))) (place 64 i) no-token) ⌝ }
 {
-    let ms = &modes[..];
-    let vs = &values[..];
+    let ms = &token_states[..];
+    let vs = &token_values[..];
     if i < ms.len() {
         return domain_state::token::holding_of(Token {
             mode: ms[i],
@@ -24,57 +24,62 @@ pub fn state_at(modes: &[u8; 64], values: &[u64; 64], i: usize) -> Holding
 }
 
 // The state of token k.
-pub fn state(keys: &[u16; 64], modes: &[u8; 64], values: &[u64; 64], k: u16) -> Holding
-    ensures { λ r. ⌜ r ≡ stateIn (tokens-of (now (keys .entry)) (now (modes .entry)) (now (values .entry))) k ⌝ }
+pub fn state(
+    token_ids: &[u16; 64],
+    token_states: &[u8; 64],
+    token_values: &[u64; 64],
+    k: u16,
+) -> Holding
+    ensures { λ r. ⌜ r ≡ stateIn (tokens-of (now («token_ids» .entry)) (now («token_states» .entry)) (now («token_values» .entry))) k ⌝ }
 {
-    state_at(modes, values, cols_find::find(keys, k))
+    state_at(token_states, token_values, cols_find::find(token_ids, k))
 }
 
 // The place for a token: its own, or the spare one where it has none.
-fn seat_for(keys: &[u16; 64], i: usize) -> usize
-    ensures { λ r. ⌜ place 64 r ≡ (if found (place 64 i) then place 64 i else spare (now (keys .entry))) ⌝ }
+fn seat_for(token_ids: &[u16; 64], i: usize) -> usize
+    ensures { λ r. ⌜ place 64 r ≡ (if found (place 64 i) then place 64 i else spare (now («token_ids» .entry))) ⌝ }
 {
     if i < 64 {
         return i;
     }
-    cols_find::spare(keys)
+    cols_find::spare(token_ids)
 }
 
 // Token k, which stands at place i or nowhere, has this cell; a free token, whose mode is 0, has no place.
 pub fn set_at(
-    keys: &mut [u16; 64],
-    modes: &mut [u8; 64],
-    values: &mut [u64; 64],
+    token_ids: &mut [u16; 64],
+    token_states: &mut [u8; 64],
+    token_values: &mut [u64; 64],
     i: usize,
     k: u16,
     t: Token,
 )
-    ensures { λ _. ⌜ tokens-of (now (keys .exit)) (now (modes .exit)) (now (values .exit))
-        ≡ set-at (tokens-of (now (keys .entry)) (now (modes .entry)) (now (values .entry))) (place 64 i) k t ⌝ }
+    ensures { λ _. ⌜ tokens-of (now («token_ids» .exit)) (now («token_states» .exit)) (now («token_values» .exit))
+        ≡ set-at (tokens-of (now («token_ids» .entry)) (now («token_states» .entry)) (now («token_values» .entry))) (place 64 i) k t ⌝ }
 {
     if t.mode == 0 {
-        store(keys, modes, values, i, 0, t);
+        store(token_ids, token_states, token_values, i, 0, t);
         return;
     }
-    let j = seat_for(keys, i);
-    store(keys, modes, values, j, k, t);
+    let j = seat_for(token_ids, i);
+    store(token_ids, token_states, token_values, j, k, t);
 }
 
 // An id and its state at place i; where there is no such place nothing changes.
 fn store(
-    keys: &mut [u16; 64],
-    modes: &mut [u8; 64],
-    values: &mut [u64; 64],
+    token_ids: &mut [u16; 64],
+    token_states: &mut [u8; 64],
+    token_values: &mut [u64; 64],
     i: usize,
     id: u16,
     t: Token,
 )
-    ensures { λ _. ⌜ (now (keys .exit) ≡ storeAt (now (keys .entry)) (place 64 i) id)
-        × (token-cells (now (modes .exit)) (now (values .exit)) ≡ storeAt (token-cells (now (modes .entry)) (now (values .entry))) (place 64 i) t) ⌝ }
+    ensures { λ _. ⌜ (now («token_ids» .exit) ≡ storeAt (now («token_ids» .entry)) (place 64 i) id)
+        × (token-cells (now («token_states» .exit)) (now («token_values» .exit)) ≡ storeAt (token-cells (now («token_states» .entry)) (now («token_values» .entry))) (place 64 i) t) ⌝ }
 {
     if i < 64 {
-        keys[i] = id;
-        modes[i] = t.mode;
-        values[i] = t.value;
+        token_ids[i] = id;
+        token_states[i] = t.mode;
+        token_values[i] = t.value;
     }
 }

@@ -6,11 +6,11 @@ ghost use Rattle.cols_spec.specs.Places.{number};
 ghost use Rattle.domain.specs.Tables.{users-of, attached as attachedIn, add-user, hosts as hostsOf};
 
 // The place of user u, where u is attached on p; 64 is nowhere.
-pub fn attached(names: &[u16; 64], homes: &[u8; 64], p: u8, u: u16) -> usize
-    ensures { λ r. ⌜ (r ≡ number 64 (attachedIn (users-of (now (names .entry)) (now (homes .entry))) p u)) × (r ≤ 64) ⌝ }
+pub fn attached(user_ids: &[u16; 64], user_links: &[u8; 64], p: u8, u: u16) -> usize
+    ensures { λ r. ⌜ (r ≡ number 64 (attachedIn (users-of (now («user_ids» .entry)) (now («user_links» .entry))) p u)) × (r ≤ 64) ⌝ }
 {
-    let i = cols_find::find(names, u);
-    let at = &homes[..];
+    let i = cols_find::find(user_ids, u);
+    let at = &user_links[..];
     if i < at.len() {
         if at[i] == p {
             return i;
@@ -20,21 +20,21 @@ pub fn attached(names: &[u16; 64], homes: &[u8; 64], p: u8, u: u16) -> usize
 }
 
 // User u, attached on p, at the spare place; where there is none nothing changes.
-pub fn add_user(names: &mut [u16; 64], homes: &mut [u8; 64], u: u16, p: u8)
-    ensures { λ _. ⌜ users-of (now (names .exit)) (now (homes .exit)) ≡ add-user (users-of (now (names .entry)) (now (homes .entry))) u p ⌝ }
+pub fn add_user(user_ids: &mut [u16; 64], user_links: &mut [u8; 64], u: u16, p: u8)
+    ensures { λ _. ⌜ users-of (now («user_ids» .exit)) (now («user_links» .exit)) ≡ add-user (users-of (now («user_ids» .entry)) (now («user_links» .entry))) u p ⌝ }
 {
-    let i = cols_find::spare(names);
+    let i = cols_find::spare(user_ids);
     if i < 64 {
-        names[i] = u;
-        homes[i] = p;
+        user_ids[i] = u;
+        user_links[i] = p;
     }
 }
 
 // The connections that have a user of a mask of places: the lowest place is taken out of it until none is left.
-pub fn hosts(names: &[u16; 64], homes: &[u8; 64], who: u64) -> u16
-    ensures { λ r. ⌜ r ≡ hostsOf (users-of (now (names .entry)) (now (homes .entry))) who ⌝ }
+pub fn hosts(user_ids: &[u16; 64], user_links: &[u8; 64], who: u64) -> u16
+    ensures { λ r. ⌜ r ≡ hostsOf (users-of (now («user_ids» .entry)) (now («user_links» .entry))) who ⌝ }
 {
-    let at = &homes[..];
+    let at = &user_links[..];
     let mut m: u16 = 0;
     let mut left = who;
     while left != 0 {
@@ -46,10 +46,10 @@ pub fn hosts(names: &[u16; 64], homes: &[u8; 64], who: u64) -> u16
 }
 
 // The id of the user at a place, and its connection; 0 and 16 where there is no such place.
-pub fn name_at(names: &[u16; 64], j: u8) -> u16
-    ensures { λ r. ⌜ r ≡ getD (now (names .entry)) j 0 ⌝ }
+pub fn name_at(user_ids: &[u16; 64], j: u8) -> u16
+    ensures { λ r. ⌜ r ≡ getD (now («user_ids» .entry)) j 0 ⌝ }
 {
-    let s = &names[..];
+    let s = &user_ids[..];
     let i = j as usize;
     if i < s.len() {
         return s[i];
@@ -57,10 +57,10 @@ pub fn name_at(names: &[u16; 64], j: u8) -> u16
     0
 }
 
-pub fn link_at(homes: &[u8; 64], j: u8) -> u8
-    ensures { λ r. ⌜ r ≡ getD (now (homes .entry)) j 16 ⌝ }
+pub fn link_at(user_links: &[u8; 64], j: u8) -> u8
+    ensures { λ r. ⌜ r ≡ getD (now («user_links» .entry)) j 16 ⌝ }
 {
-    let s = &homes[..];
+    let s = &user_links[..];
     let i = j as usize;
     if i < s.len() {
         return s[i];

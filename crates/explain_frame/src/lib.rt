@@ -201,18 +201,18 @@ pub fn put_frame(
     s: &[u8],
     report: Report,
     room: &[u8],
-    names: &[u16; 64],
-    keys: &[u16; 64],
-    modes: &[u8; 64],
-    values: &[u64; 64],
-    old_keys: &mut [u16; 64],
-    old_modes: &mut [u8; 64],
-    old_values: &mut [u64; 64],
+    user_ids: &[u16; 64],
+    token_ids: &[u16; 64],
+    token_states: &[u8; 64],
+    token_values: &[u64; 64],
+    old_token_ids: &mut [u16; 64],
+    old_token_states: &mut [u8; 64],
+    old_token_values: &mut [u64; 64],
 ) -> usize
-    ensures { λ r. ⌜ Tells (messageIn (now (s .entry)) (front (now (s .entry)))) (frameTexts number (now (s .entry)) report (now (room .entry)) (now (names .entry))
-        (tokens-of (now («old_keys» .entry)) (now («old_modes» .entry)) (now («old_values» .entry)))
-        (tokens-of (now (keys .entry)) (now (modes .entry)) (now (values .entry)))) (now (out .entry)) filled (now (out .exit)) r
-        × (now («old_keys» .exit) ≡ now (keys .entry)) × (now («old_modes» .exit) ≡ now (modes .entry)) × (now («old_values» .exit) ≡ now (values .entry)) ⌝ }
+    ensures { λ r. ⌜ Tells (messageIn (now (s .entry)) (front (now (s .entry)))) (frameTexts number (now (s .entry)) report (now (room .entry)) (now («user_ids» .entry))
+        (tokens-of (now («old_token_ids» .entry)) (now («old_token_states» .entry)) (now («old_token_values» .entry)))
+        (tokens-of (now («token_ids» .entry)) (now («token_states» .entry)) (now («token_values» .entry)))) (now (out .entry)) filled (now (out .exit)) r
+        × (now («old_token_ids» .exit) ≡ now («token_ids» .entry)) × (now («old_token_states» .exit) ≡ now («token_states» .entry)) × (now («old_token_values» .exit) ≡ now («token_values» .entry)) ⌝ }
 {
     let a = put_count(out, filled, b"frame ", number);
     let b = put_front(out, a, s, report.reply);
@@ -221,12 +221,12 @@ pub fn put_frame(
     explain_tokens::put_changes(
         out,
         d,
-        names,
-        keys,
-        modes,
-        values,
-        old_keys,
-        old_modes,
-        old_values,
+        user_ids,
+        token_ids,
+        token_states,
+        token_values,
+        old_token_ids,
+        old_token_states,
+        old_token_values,
     )
 }

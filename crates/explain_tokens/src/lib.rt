@@ -33,10 +33,10 @@ fn put_rising(out: &mut [u8], filled: usize, ids: &[u16]) -> usize
 }
 
 // The id of the user at a place, or 0.
-fn name_at(names: &[u16; 64], i: u8) -> u16
-    ensures { λ r. ⌜ r ≡ getD (now (names .entry)) i 0 ⌝ }
+fn name_at(user_ids: &[u16; 64], i: u8) -> u16
+    ensures { λ r. ⌜ r ≡ getD (now («user_ids» .entry)) i 0 ⌝ }
 {
-    let all = &names[..];
+    let all = &user_ids[..];
     let k = i as usize;
     if k < all.len() {
         return all[k];
@@ -55,10 +55,10 @@ fn picked(told: bool, id: u16) -> u16
 }
 
 // The ids of the users at the places of a set.
-fn members(names: &[u16; 64], us: u64) -> [u16; 64]
-    ensures { λ r. ⌜ r ≡ pickedFrom (has us) 0 (now (names .entry)) ⌝ }
+fn members(user_ids: &[u16; 64], us: u64) -> [u16; 64]
+    ensures { λ r. ⌜ r ≡ pickedFrom (has us) 0 (now («user_ids» .entry)) ⌝ }
 {
-    let all = &names[..];
+    let all = &user_ids[..];
     let mut ids = [0u16; 64];
     let mut i = 0;
     while i < 64 {
@@ -69,40 +69,40 @@ fn members(names: &[u16; 64], us: u64) -> [u16; 64]
 }
 
 // A user's id behind a text.
-fn put_user(out: &mut [u8], filled: usize, text: &[u8], names: &[u16; 64], i: u8) -> usize
-    ensures { λ r. ⌜ Says (now (out .entry)) filled (now (text .entry) ∷ idTexts (getD (now (names .entry)) i 0)) (now (out .exit)) r ⌝ }
+fn put_user(out: &mut [u8], filled: usize, text: &[u8], user_ids: &[u16; 64], i: u8) -> usize
+    ensures { λ r. ⌜ Says (now (out .entry)) filled (now (text .entry) ∷ idTexts (getD (now («user_ids» .entry)) i 0)) (now (out .exit)) r ⌝ }
 {
     let a = say(out, filled, text);
-    explain_message::message::put_id(out, a, name_at(names, i))
+    explain_message::message::put_id(out, a, name_at(user_ids, i))
 }
 
 // The state of a token.
-fn put_holding(out: &mut [u8], filled: usize, names: &[u16; 64], h: Holding) -> usize
-    ensures { λ r. ⌜ Says (now (out .entry)) filled (holdingTexts (now (names .entry)) h) (now (out .exit)) r ⌝ }
+fn put_holding(out: &mut [u8], filled: usize, user_ids: &[u16; 64], h: Holding) -> usize
+    ensures { λ r. ⌜ Says (now (out .entry)) filled (holdingTexts (now («user_ids» .entry)) h) (now (out .exit)) r ⌝ }
 {
     match h {
         Holding::Free => say(out, filled, b"free"),
-        Holding::Grabbed(g) => put_user(out, filled, b"grabbed by", names, g),
+        Holding::Grabbed(g) => put_user(out, filled, b"grabbed by", user_ids, g),
         Holding::Inhibited(us) => {
             let a = say(out, filled, b"inhibited by");
-            put_rising(out, a, &members(names, us))
+            put_rising(out, a, &members(user_ids, us))
         }
         Holding::Giving(g, r) => {
-            let a = put_user(out, filled, b"giving from", names, g);
-            put_user(out, a, b" to", names, r)
+            let a = put_user(out, filled, b"giving from", user_ids, g);
+            put_user(out, a, b" to", user_ids, r)
         }
-        Holding::Given(r) => put_user(out, filled, b"given to", names, r),
+        Holding::Given(r) => put_user(out, filled, b"given to", user_ids, r),
     }
 }
 
 // A token's line.
-fn put_token(out: &mut [u8], filled: usize, names: &[u16; 64], k: u16, h: Holding) -> usize
-    ensures { λ r. ⌜ Says (now (out .entry)) filled (tokenTexts (now (names .entry)) k h) (now (out .exit)) r ⌝ }
+fn put_token(out: &mut [u8], filled: usize, user_ids: &[u16; 64], k: u16, h: Holding) -> usize
+    ensures { λ r. ⌜ Says (now (out .entry)) filled (tokenTexts (now («user_ids» .entry)) k h) (now (out .exit)) r ⌝ }
 {
     let a = say(out, filled, b"  token ");
     let b = say_number(out, a, k as u64);
     let c = say(out, b, b": ");
-    let d = put_holding(out, c, names, h);
+    let d = put_holding(out, c, user_ids, h);
     say(out, d, b"\n")
 }
 
@@ -110,13 +110,13 @@ fn put_token(out: &mut [u8], filled: usize, names: &[u16; 64], k: u16, h: Holdin
 fn put_tokens(
     out: &mut [u8],
     filled: usize,
-    names: &[u16; 64],
-    keys: &[u16; 64],
-    modes: &[u8; 64],
-    values: &[u64; 64],
+    user_ids: &[u16; 64],
+    token_ids: &[u16; 64],
+    token_states: &[u8; 64],
+    token_values: &[u64; 64],
     list: &[u16],
 ) -> usize
-    ensures { λ r. ⌜ Says (now (out .entry)) filled (over (stateTexts (now (names .entry)) (tokens-of (now (keys .entry)) (now (modes .entry)) (now (values .entry)))) (inOrder (now (list .entry)))) (now (out .exit)) r ⌝ }
+    ensures { λ r. ⌜ Says (now (out .entry)) filled (over (stateTexts (now («user_ids» .entry)) (tokens-of (now («token_ids» .entry)) (now («token_states» .entry)) (now («token_values» .entry)))) (inOrder (now (list .entry)))) (now (out .exit)) r ⌝ }
 {
     let mut at = filled;
     let mut low: u16 = 0;
@@ -129,9 +129,9 @@ fn put_tokens(
         at = put_token(
             out,
             at,
-            names,
+            user_ids,
             k,
-            domain_tables::tokens::state(keys, modes, values, k),
+            domain_tables::tokens::state(token_ids, token_states, token_values, k),
         );
         low = k;
         left -= 1;
@@ -141,58 +141,66 @@ fn put_tokens(
 
 // Takes a place's numbers over and answers whether they were others.
 fn took(
-    keys: &[u16; 64],
-    modes: &[u8; 64],
-    values: &[u64; 64],
-    old_keys: &mut [u16; 64],
-    old_modes: &mut [u8; 64],
-    old_values: &mut [u64; 64],
+    token_ids: &[u16; 64],
+    token_states: &[u8; 64],
+    token_values: &[u64; 64],
+    old_token_ids: &mut [u16; 64],
+    old_token_states: &mut [u8; 64],
+    old_token_values: &mut [u64; 64],
     i: usize,
 ) -> bool
     requires { ⌜ i < 64 ⌝ }
-    ensures { λ r. ⌜ (r ≡ differ (getD (now («old_keys» .entry)) i 0) (getD (now («old_modes» .entry)) i 0) (getD (now («old_values» .entry)) i 0)
-        (getD (now (keys .entry)) i 0) (getD (now (modes .entry)) i 0) (getD (now (values .entry)) i 0))
-        × (now («old_keys» .exit) ≡ set (now («old_keys» .entry)) i (getD (now (keys .entry)) i 0))
-        × (now («old_modes» .exit) ≡ set (now («old_modes» .entry)) i (getD (now (modes .entry)) i 0))
-        × (now («old_values» .exit) ≡ set (now («old_values» .entry)) i (getD (now (values .entry)) i 0)) ⌝ }
+    ensures { λ r. ⌜ (r ≡ differ (getD (now («old_token_ids» .entry)) i 0) (getD (now («old_token_states» .entry)) i 0) (getD (now («old_token_values» .entry)) i 0)
+        (getD (now («token_ids» .entry)) i 0) (getD (now («token_states» .entry)) i 0) (getD (now («token_values» .entry)) i 0))
+        × (now («old_token_ids» .exit) ≡ set (now («old_token_ids» .entry)) i (getD (now («token_ids» .entry)) i 0))
+        × (now («old_token_states» .exit) ≡ set (now («old_token_states» .entry)) i (getD (now («token_states» .entry)) i 0))
+        × (now («old_token_values» .exit) ≡ set (now («old_token_values» .entry)) i (getD (now («token_values» .entry)) i 0)) ⌝ }
 {
-    let k = keys[i];
-    let m = modes[i];
-    let v = values[i];
-    let changed = (old_keys[i] != k) | (old_modes[i] != m) | (old_values[i] != v);
-    old_keys[i] = k;
-    old_modes[i] = m;
-    old_values[i] = v;
+    let k = token_ids[i];
+    let m = token_states[i];
+    let v = token_values[i];
+    let changed = (old_token_ids[i] != k) | (old_token_states[i] != m) | (old_token_values[i] != v);
+    old_token_ids[i] = k;
+    old_token_states[i] = m;
+    old_token_values[i] = v;
     changed
 }
 
 // The ids of the places that changed since, before and after; the columns before become those after.
 fn changes(
-    keys: &[u16; 64],
-    modes: &[u8; 64],
-    values: &[u64; 64],
-    old_keys: &mut [u16; 64],
-    old_modes: &mut [u8; 64],
-    old_values: &mut [u64; 64],
+    token_ids: &[u16; 64],
+    token_states: &[u8; 64],
+    token_values: &[u64; 64],
+    old_token_ids: &mut [u16; 64],
+    old_token_states: &mut [u8; 64],
+    old_token_values: &mut [u64; 64],
 ) -> [u16; 128]
-    ensures { λ r. ⌜ (r ≡ changedIds (tokens-of (now («old_keys» .entry)) (now («old_modes» .entry)) (now («old_values» .entry)))
-        (tokens-of (now (keys .entry)) (now (modes .entry)) (now (values .entry))))
-        × (now («old_keys» .exit) ≡ now (keys .entry)) × (now («old_modes» .exit) ≡ now (modes .entry)) × (now («old_values» .exit) ≡ now (values .entry)) ⌝ }
+    ensures { λ r. ⌜ (r ≡ changedIds (tokens-of (now («old_token_ids» .entry)) (now («old_token_states» .entry)) (now («old_token_values» .entry)))
+        (tokens-of (now («token_ids» .entry)) (now («token_states» .entry)) (now («token_values» .entry))))
+        × (now («old_token_ids» .exit) ≡ now («token_ids» .entry)) × (now («old_token_states» .exit) ≡ now («token_states» .entry)) × (now («old_token_values» .exit) ≡ now («token_values» .entry)) ⌝ }
 {
     // How long the columns are: what the loop keeps.
-    let n1 = keys[..].len();
-    let n2 = modes[..].len();
-    let n3 = values[..].len();
-    let n4 = old_keys[..].len();
-    let n5 = old_modes[..].len();
-    let n6 = old_values[..].len();
+    let n1 = token_ids[..].len();
+    let n2 = token_states[..].len();
+    let n3 = token_values[..].len();
+    let n4 = old_token_ids[..].len();
+    let n5 = old_token_states[..].len();
+    let n6 = old_token_values[..].len();
     let mut list = [0u16; 128];
     let mut i = 0;
     while i < 64 {
-        let was = old_keys[i];
-        let told = took(keys, modes, values, old_keys, old_modes, old_values, i);
+        let was = old_token_ids[i];
+        let told = took(
+            token_ids,
+            token_states,
+            token_values,
+            old_token_ids,
+            old_token_states,
+            old_token_values,
+            i,
+        );
         list[i] = picked(told, was);
-        list[64 + i] = picked(told, keys[i]);
+        list[64 + i] = picked(told, token_ids[i]);
         i += 1;
     }
     list
@@ -202,35 +210,58 @@ fn changes(
 pub fn put_changes(
     out: &mut [u8],
     filled: usize,
-    names: &[u16; 64],
-    keys: &[u16; 64],
-    modes: &[u8; 64],
-    values: &[u64; 64],
-    old_keys: &mut [u16; 64],
-    old_modes: &mut [u8; 64],
-    old_values: &mut [u64; 64],
+    user_ids: &[u16; 64],
+    token_ids: &[u16; 64],
+    token_states: &[u8; 64],
+    token_values: &[u64; 64],
+    old_token_ids: &mut [u16; 64],
+    old_token_states: &mut [u8; 64],
+    old_token_values: &mut [u64; 64],
 ) -> usize
-    ensures { λ r. ⌜ Says (now (out .entry)) filled (changeTexts (now (names .entry)) (tokens-of (now («old_keys» .entry)) (now («old_modes» .entry)) (now («old_values» .entry)))
-        (tokens-of (now (keys .entry)) (now (modes .entry)) (now (values .entry)))) (now (out .exit)) r
-        × (now («old_keys» .exit) ≡ now (keys .entry)) × (now («old_modes» .exit) ≡ now (modes .entry)) × (now («old_values» .exit) ≡ now (values .entry)) ⌝ }
+    ensures { λ r. ⌜ Says (now (out .entry)) filled (changeTexts (now («user_ids» .entry)) (tokens-of (now («old_token_ids» .entry)) (now («old_token_states» .entry)) (now («old_token_values» .entry)))
+        (tokens-of (now («token_ids» .entry)) (now («token_states» .entry)) (now («token_values» .entry)))) (now (out .exit)) r
+        × (now («old_token_ids» .exit) ≡ now («token_ids» .entry)) × (now («old_token_states» .exit) ≡ now («token_states» .entry)) × (now («old_token_values» .exit) ≡ now («token_values» .entry)) ⌝ }
 {
-    let list = changes(keys, modes, values, old_keys, old_modes, old_values);
-    put_tokens(out, filled, names, keys, modes, values, &list)
+    let list = changes(
+        token_ids,
+        token_states,
+        token_values,
+        old_token_ids,
+        old_token_states,
+        old_token_values,
+    );
+    put_tokens(
+        out,
+        filled,
+        user_ids,
+        token_ids,
+        token_states,
+        token_values,
+        &list,
+    )
 }
 
 // The table: how many tokens are in use, and a line for each.
 pub fn put_table(
     out: &mut [u8],
     filled: usize,
-    names: &[u16; 64],
-    keys: &[u16; 64],
-    modes: &[u8; 64],
-    values: &[u64; 64],
+    user_ids: &[u16; 64],
+    token_ids: &[u16; 64],
+    token_states: &[u8; 64],
+    token_values: &[u64; 64],
 ) -> usize
-    ensures { λ r. ⌜ Says (now (out .entry)) filled (tableTexts (now (names .entry)) (tokens-of (now (keys .entry)) (now (modes .entry)) (now (values .entry)))) (now (out .exit)) r ⌝ }
+    ensures { λ r. ⌜ Says (now (out .entry)) filled (tableTexts (now («user_ids» .entry)) (tokens-of (now («token_ids» .entry)) (now («token_states» .entry)) (now («token_values» .entry)))) (now (out .exit)) r ⌝ }
 {
     let a = say(out, filled, b"tokens in use: ");
-    let b = say_number(out, a, cols_find::used(keys) as u64);
+    let b = say_number(out, a, cols_find::used(token_ids) as u64);
     let c = say(out, b, b"\n");
-    put_tokens(out, c, names, keys, modes, values, keys)
+    put_tokens(
+        out,
+        c,
+        user_ids,
+        token_ids,
+        token_states,
+        token_values,
+        token_ids,
+    )
 }

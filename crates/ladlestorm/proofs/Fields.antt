@@ -51,10 +51,10 @@ abbrev pub held : Domain → Held
 held = T.the-type .to
 
 abbrev pub made : Held → Domain
-made x = record { channels = x .0; users = x .1 .0; tokens = x .1 .1 .0; links = x .1 .1 .1 .0; names = x .1 .1 .1 .1 .0; homes = x .1 .1 .1 .1 .1 .0; ids = x .1 .1 .1 .1 .1 .1 .0; roles = x .1 .1 .1 .1 .1 .1 .1 .0; chairs = x .1 .1 .1 .1 .1 .1 .1 .1 .0; guests = x .1 .1 .1 .1 .1 .1 .1 .1 .1 .0; marks = x .1 .1 .1 .1 .1 .1 .1 .1 .1 .1 .0; keys = x .1 .1 .1 .1 .1 .1 .1 .1 .1 .1 .1 .0; modes = x .1 .1 .1 .1 .1 .1 .1 .1 .1 .1 .1 .1 .0; values = x .1 .1 .1 .1 .1 .1 .1 .1 .1 .1 .1 .1 .1 .0 }
+made x = record { channels = x .0; users = x .1 .0; tokens = x .1 .1 .0; links = x .1 .1 .1 .0; user-ids = x .1 .1 .1 .1 .0; user-links = x .1 .1 .1 .1 .1 .0; channel-ids = x .1 .1 .1 .1 .1 .1 .0; channel-kinds = x .1 .1 .1 .1 .1 .1 .1 .0; managers = x .1 .1 .1 .1 .1 .1 .1 .1 .0; admitted = x .1 .1 .1 .1 .1 .1 .1 .1 .1 .0; joined = x .1 .1 .1 .1 .1 .1 .1 .1 .1 .1 .0; token-ids = x .1 .1 .1 .1 .1 .1 .1 .1 .1 .1 .1 .0; token-states = x .1 .1 .1 .1 .1 .1 .1 .1 .1 .1 .1 .1 .0; token-values = x .1 .1 .1 .1 .1 .1 .1 .1 .1 .1 .1 .1 .1 .0 }
 
 pub made-held : (d : Domain) → made (held d) ≡ d
-made-held d = λ i. record { channels = d .channels; users = d .users; tokens = d .tokens; links = d .links; names = map-id (d .names) i; homes = map-id (d .homes) i; ids = map-id (d .ids) i; roles = map-id (d .roles) i; chairs = map-id (d .chairs) i; guests = map-id (d .guests) i; marks = map-id (d .marks) i; keys = map-id (d .keys) i; modes = map-id (d .modes) i; values = map-id (d .values) i }
+made-held d = λ i. record { channels = d .channels; users = d .users; tokens = d .tokens; links = d .links; user-ids = map-id (d .user-ids) i; user-links = map-id (d .user-links) i; channel-ids = map-id (d .channel-ids) i; channel-kinds = map-id (d .channel-kinds) i; managers = map-id (d .managers) i; admitted = map-id (d .admitted) i; joined = map-id (d .joined) i; token-ids = map-id (d .token-ids) i; token-states = map-id (d .token-states) i; token-values = map-id (d .token-values) i }
 
 held-made : (x : Held) → held (made x) ≡ x
 held-made x = λ i. (x .0, (x .1 .0, (x .1 .1 .0, (x .1 .1 .1 .0, (map-id (x .1 .1 .1 .1 .0) i, (map-id (x .1 .1 .1 .1 .1 .0) i, (map-id (x .1 .1 .1 .1 .1 .1 .0) i, (map-id (x .1 .1 .1 .1 .1 .1 .1 .0) i, (map-id (x .1 .1 .1 .1 .1 .1 .1 .1 .0) i, (map-id (x .1 .1 .1 .1 .1 .1 .1 .1 .1 .0) i, (map-id (x .1 .1 .1 .1 .1 .1 .1 .1 .1 .1 .0) i, (map-id (x .1 .1 .1 .1 .1 .1 .1 .1 .1 .1 .1 .0) i, (map-id (x .1 .1 .1 .1 .1 .1 .1 .1 .1 .1 .1 .1 .0) i, (map-id (x .1 .1 .1 .1 .1 .1 .1 .1 .1 .1 .1 .1 .1 .0) i, tt))))))))))))))

@@ -42,32 +42,32 @@ tokens-back (m ∷ ms) (v ∷ vs) a = ap {B = List ℕ × List ℕ} (λ (t : Lis
 
 -- each column has a value for each place of its table
 pub record Whole (d : Domain) : Type 0 where
-  pub chairs : length (d .chairs) ≡ length (d .roles)
-  pub guests : length (d .guests) ≡ length (d .roles)
-  pub marks : length (d .marks) ≡ length (d .roles)
-  pub values : length (d .values) ≡ length (d .modes)
+  pub managers : length (d .managers) ≡ length (d .channel-kinds)
+  pub admitted : length (d .admitted) ≡ length (d .channel-kinds)
+  pub joined : length (d .joined) ≡ length (d .channel-kinds)
+  pub token-values : length (d .token-values) ≡ length (d .token-states)
 
 pub one-struct : (d e : Domain) → Whole d → Whole e → domain-in d ≡ domain-in e → d ≡ e
 one-struct d e w v q =
-    let cs : _≡_ {A = Four} (d .roles, (d .chairs, (d .guests, d .marks))) (e .roles, (e .chairs, (e .guests, e .marks))) =
-    sym (channels-back (d .roles) (d .chairs) (d .guests) (d .marks) (w .chairs) (w .guests) (w .marks)) ∙ ap {B = Four} (λ (t : Tables). channel-columns (t .channels .cells)) q ∙ channels-back (e .roles) (e .chairs) (e .guests) (e .marks) (v .chairs) (v .guests) (v .marks) in
-    let ts : _≡_ {A = List ℕ × List ℕ} (d .modes, d .values) (e .modes, e .values) =
-    sym (tokens-back (d .modes) (d .values) (w .values)) ∙ ap {B = List ℕ × List ℕ} (λ (t : Tables). token-columns (t .tokens .cells)) q ∙ tokens-back (e .modes) (e .values) (v .values) in
+    let cs : _≡_ {A = Four} (d .channel-kinds, (d .managers, (d .admitted, d .joined))) (e .channel-kinds, (e .managers, (e .admitted, e .joined))) =
+    sym (channels-back (d .channel-kinds) (d .managers) (d .admitted) (d .joined) (w .managers) (w .admitted) (w .joined)) ∙ ap {B = Four} (λ (t : Tables). channel-columns (t .channels .cells)) q ∙ channels-back (e .channel-kinds) (e .managers) (e .admitted) (e .joined) (v .managers) (v .admitted) (v .joined) in
+    let ts : _≡_ {A = List ℕ × List ℕ} (d .token-states, d .token-values) (e .token-states, e .token-values) =
+    sym (tokens-back (d .token-states) (d .token-values) (w .token-values)) ∙ ap {B = List ℕ × List ℕ} (λ (t : Tables). token-columns (t .tokens .cells)) q ∙ tokens-back (e .token-states) (e .token-values) (v .token-values) in
     λ i. record {
       channels = q i .limits .channels;
       users = q i .limits .users;
       tokens = q i .limits .tokens;
       links = q i .links;
-      names = q i .users .ids;
-      homes = q i .users .at;
-      ids = q i .channels .ids;
-      roles = cs i .0;
-      chairs = cs i .1 .0;
-      guests = cs i .1 .1 .0;
-      marks = cs i .1 .1 .1;
-      keys = q i .tokens .ids;
-      modes = ts i .0;
-      values = ts i .1;
+      user-ids = q i .users .ids;
+      user-links = q i .users .at;
+      channel-ids = q i .channels .ids;
+      channel-kinds = cs i .0;
+      managers = cs i .1 .0;
+      admitted = cs i .1 .1 .0;
+      joined = cs i .1 .1 .1;
+      token-ids = q i .tokens .ids;
+      token-states = ts i .0;
+      token-values = ts i .1;
     }
 
 -- an event, and a start

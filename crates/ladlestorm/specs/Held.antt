@@ -4,4 +4,4 @@ use Rattle.domain.specs.Outcomes.{limited}
 use Rattle.ladlestorm.specs.declared.Domain.{Domain as Held}
 
 abbrev pub domain-in : Held → Domain
-domain-in d = domain-of (limited (d .channels) (d .users) (d .tokens)) (d .links) (d .names) (d .homes) (d .ids) (d .roles) (d .chairs) (d .guests) (d .marks) (d .keys) (d .modes) (d .values)
+domain-in d = domain-of (limited (d .channels) (d .users) (d .tokens)) (d .links) (d .user-ids) (d .user-links) (d .channel-ids) (d .channel-kinds) (d .managers) (d .admitted) (d .joined) (d .token-ids) (d .token-states) (d .token-values)

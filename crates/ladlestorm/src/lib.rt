@@ -21,16 +21,16 @@ pub struct Domain {
     pub users: u8,
     pub tokens: u8,
     pub links: u16,
-    pub names: [u16; 64],
-    pub homes: [u8; 64],
-    pub ids: [u16; 128],
-    pub roles: [u8; 128],
-    pub chairs: [u8; 128],
-    pub guests: [u64; 128],
-    pub marks: [u16; 128],
-    pub keys: [u16; 64],
-    pub modes: [u8; 64],
-    pub values: [u64; 64],
+    pub user_ids: [u16; 64],
+    pub user_links: [u8; 64],
+    pub channel_ids: [u16; 128],
+    pub channel_kinds: [u8; 128],
+    pub managers: [u8; 128],
+    pub admitted: [u64; 128],
+    pub joined: [u16; 128],
+    pub token_ids: [u16; 64],
+    pub token_states: [u8; 64],
+    pub token_values: [u64; 64],
 }
 
 // A domain with these limits, and nothing in it; a limit out of range leaves the struct as it is.
@@ -43,16 +43,16 @@ pub extern "C" fn ladlestorm_start(d: &mut Domain, channels: u32, users: u32, to
         &mut d.users,
         &mut d.tokens,
         &mut d.links,
-        &mut d.names,
-        &mut d.homes,
-        &mut d.ids,
-        &mut d.roles,
-        &mut d.chairs,
-        &mut d.guests,
-        &mut d.marks,
-        &mut d.keys,
-        &mut d.modes,
-        &mut d.values,
+        &mut d.user_ids,
+        &mut d.user_links,
+        &mut d.channel_ids,
+        &mut d.channel_kinds,
+        &mut d.managers,
+        &mut d.admitted,
+        &mut d.joined,
+        &mut d.token_ids,
+        &mut d.token_states,
+        &mut d.token_values,
         channels,
         users,
         tokens,
@@ -69,16 +69,16 @@ pub extern "C" fn ladlestorm_open(d: &mut Domain, p: u8) -> u32
         &mut d.users,
         &mut d.tokens,
         &mut d.links,
-        &mut d.names,
-        &mut d.homes,
-        &mut d.ids,
-        &mut d.roles,
-        &mut d.chairs,
-        &mut d.guests,
-        &mut d.marks,
-        &mut d.keys,
-        &mut d.modes,
-        &mut d.values,
+        &mut d.user_ids,
+        &mut d.user_links,
+        &mut d.channel_ids,
+        &mut d.channel_kinds,
+        &mut d.managers,
+        &mut d.admitted,
+        &mut d.joined,
+        &mut d.token_ids,
+        &mut d.token_states,
+        &mut d.token_values,
         p,
     )
 }
@@ -93,16 +93,16 @@ pub extern "C" fn ladlestorm_lose(d: &mut Domain, p: u8, out: &mut [u8]) -> Answ
         &mut d.users,
         &mut d.tokens,
         &mut d.links,
-        &mut d.names,
-        &mut d.homes,
-        &mut d.ids,
-        &mut d.roles,
-        &mut d.chairs,
-        &mut d.guests,
-        &mut d.marks,
-        &mut d.keys,
-        &mut d.modes,
-        &mut d.values,
+        &mut d.user_ids,
+        &mut d.user_links,
+        &mut d.channel_ids,
+        &mut d.channel_kinds,
+        &mut d.managers,
+        &mut d.admitted,
+        &mut d.joined,
+        &mut d.token_ids,
+        &mut d.token_states,
+        &mut d.token_values,
         p,
         out,
     )
@@ -124,16 +124,16 @@ pub extern "C" fn ladlestorm_message(
         &mut d.users,
         &mut d.tokens,
         &mut d.links,
-        &mut d.names,
-        &mut d.homes,
-        &mut d.ids,
-        &mut d.roles,
-        &mut d.chairs,
-        &mut d.guests,
-        &mut d.marks,
-        &mut d.keys,
-        &mut d.modes,
-        &mut d.values,
+        &mut d.user_ids,
+        &mut d.user_links,
+        &mut d.channel_ids,
+        &mut d.channel_kinds,
+        &mut d.managers,
+        &mut d.admitted,
+        &mut d.joined,
+        &mut d.token_ids,
+        &mut d.token_states,
+        &mut d.token_values,
         p,
         octets,
         out,
@@ -145,7 +145,14 @@ pub extern "C" fn ladlestorm_message(
 pub extern "C" fn ladlestorm_audience(d: &Domain, c: u16) -> u32
     ensures { λ r. ⌜ r ≡ audience (domain-in (now (d .entry)) .channels) c ⌝ }
 {
-    c_fields::audience(&d.ids, &d.roles, &d.chairs, &d.guests, &d.marks, c)
+    c_fields::audience(
+        &d.channel_ids,
+        &d.channel_kinds,
+        &d.managers,
+        &d.admitted,
+        &d.joined,
+        c,
+    )
 }
 
 // The users in use.
@@ -153,7 +160,7 @@ pub extern "C" fn ladlestorm_audience(d: &Domain, c: u16) -> u32
 pub extern "C" fn ladlestorm_users(d: &Domain) -> usize
     ensures { λ r. ⌜ r ≡ used (domain-in (now (d .entry)) .users .ids) ⌝ }
 {
-    c_fields::used_of_64(&d.names)
+    c_fields::used_of_64(&d.user_ids)
 }
 
 // The channels in use.
@@ -161,7 +168,7 @@ pub extern "C" fn ladlestorm_users(d: &Domain) -> usize
 pub extern "C" fn ladlestorm_channels(d: &Domain) -> usize
     ensures { λ r. ⌜ r ≡ used (domain-in (now (d .entry)) .channels .ids) ⌝ }
 {
-    c_fields::used_of_128(&d.ids)
+    c_fields::used_of_128(&d.channel_ids)
 }
 
 // The tokens in use.
@@ -169,5 +176,5 @@ pub extern "C" fn ladlestorm_channels(d: &Domain) -> usize
 pub extern "C" fn ladlestorm_tokens(d: &Domain) -> usize
     ensures { λ r. ⌜ r ≡ used (domain-in (now (d .entry)) .tokens .ids) ⌝ }
 {
-    c_fields::used_of_64(&d.keys)
+    c_fields::used_of_64(&d.token_ids)
 }

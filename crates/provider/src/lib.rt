@@ -38,26 +38,26 @@ fn hear(lost: bool, octets: &[u8], listed: &mut [u16; 64]) -> Understood
 // lies on the stack for these alone.
 fn long_event(
     links: &mut u16,
-    names: &mut [u16; 64],
-    homes: &mut [u8; 64],
-    ids: &mut [u16; 128],
-    roles: &mut [u8; 128],
-    chairs: &mut [u8; 128],
-    guests: &mut [u64; 128],
-    marks: &mut [u16; 128],
-    keys: &mut [u16; 64],
-    modes: &mut [u8; 64],
-    values: &mut [u64; 64],
+    user_ids: &mut [u16; 64],
+    user_links: &mut [u8; 64],
+    channel_ids: &mut [u16; 128],
+    channel_kinds: &mut [u8; 128],
+    managers: &mut [u8; 128],
+    admitted: &mut [u64; 128],
+    joined: &mut [u16; 128],
+    token_ids: &mut [u16; 64],
+    token_states: &mut [u8; 64],
+    token_values: &mut [u64; 64],
     p: u8,
     lost: bool,
     octets: &[u8],
     out: &mut [u8],
 ) -> Answer
     requires { ⌜ (not (ltb 15 p || not (hasIn (now links) p)) ≡ true) × (lost ≡ false → NoneRead few-ids (now octets)) ⌝ }
-    ensures { λ r. ⌜ ((l : Limits) → answered r (domain-of l (now (links .exit)) (now (names .exit)) (now (homes .exit)) (now (ids .exit)) (now (roles .exit))
-        (now (chairs .exit)) (now (guests .exit)) (now (marks .exit)) (now (keys .exit)) (now (modes .exit)) (now (values .exit))) (now (out .exit))
-        ≡ after (domain-of l (now (links .entry)) (now (names .entry)) (now (homes .entry)) (now (ids .entry)) (now (roles .entry))
-        (now (chairs .entry)) (now (guests .entry)) (now (marks .entry)) (now (keys .entry)) (now (modes .entry)) (now (values .entry))) (if lost then loses p else hears p (understood (now (octets .entry)))) (now (out .entry))) ⌝ }
+    ensures { λ r. ⌜ ((l : Limits) → answered r (domain-of l (now (links .exit)) (now («user_ids» .exit)) (now («user_links» .exit)) (now («channel_ids» .exit)) (now («channel_kinds» .exit))
+        (now (managers .exit)) (now (admitted .exit)) (now (joined .exit)) (now («token_ids» .exit)) (now («token_states» .exit)) (now («token_values» .exit))) (now (out .exit))
+        ≡ after (domain-of l (now (links .entry)) (now («user_ids» .entry)) (now («user_links» .entry)) (now («channel_ids» .entry)) (now («channel_kinds» .entry))
+        (now (managers .entry)) (now (admitted .entry)) (now (joined .entry)) (now («token_ids» .entry)) (now («token_states» .entry)) (now («token_values» .entry))) (if lost then loses p else hears p (understood (now (octets .entry)))) (now (out .entry))) ⌝ }
 {
     let mut listed = [0u16; 64];
     let u = hear(lost, octets, &mut listed);
@@ -67,16 +67,16 @@ fn long_event(
     }
     serve_dispatch::listed_request(
         links,
-        names,
-        homes,
-        ids,
-        roles,
-        chairs,
-        guests,
-        marks,
-        keys,
-        modes,
-        values,
+        user_ids,
+        user_links,
+        channel_ids,
+        channel_kinds,
+        managers,
+        admitted,
+        joined,
+        token_ids,
+        token_states,
+        token_values,
         p,
         u.number,
         u.first,
@@ -90,23 +90,23 @@ fn long_event(
 // Connection p is lost.
 pub fn lose(
     links: &mut u16,
-    names: &mut [u16; 64],
-    homes: &mut [u8; 64],
-    ids: &mut [u16; 128],
-    roles: &mut [u8; 128],
-    chairs: &mut [u8; 128],
-    guests: &mut [u64; 128],
-    marks: &mut [u16; 128],
-    keys: &mut [u16; 64],
-    modes: &mut [u8; 64],
-    values: &mut [u64; 64],
+    user_ids: &mut [u16; 64],
+    user_links: &mut [u8; 64],
+    channel_ids: &mut [u16; 128],
+    channel_kinds: &mut [u8; 128],
+    managers: &mut [u8; 128],
+    admitted: &mut [u64; 128],
+    joined: &mut [u16; 128],
+    token_ids: &mut [u16; 64],
+    token_states: &mut [u8; 64],
+    token_values: &mut [u64; 64],
     p: u8,
     out: &mut [u8],
 ) -> Answer
-    ensures { λ r. ⌜ ((l : Limits) → answered r (domain-of l (now (links .exit)) (now (names .exit)) (now (homes .exit)) (now (ids .exit)) (now (roles .exit))
-        (now (chairs .exit)) (now (guests .exit)) (now (marks .exit)) (now (keys .exit)) (now (modes .exit)) (now (values .exit))) (now (out .exit))
-        ≡ after (domain-of l (now (links .entry)) (now (names .entry)) (now (homes .entry)) (now (ids .entry)) (now (roles .entry))
-        (now (chairs .entry)) (now (guests .entry)) (now (marks .entry)) (now (keys .entry)) (now (modes .entry)) (now (values .entry))) (loses p) (now (out .entry))) ⌝ }
+    ensures { λ r. ⌜ ((l : Limits) → answered r (domain-of l (now (links .exit)) (now («user_ids» .exit)) (now («user_links» .exit)) (now («channel_ids» .exit)) (now («channel_kinds» .exit))
+        (now (managers .exit)) (now (admitted .exit)) (now (joined .exit)) (now («token_ids» .exit)) (now («token_states» .exit)) (now («token_values» .exit))) (now (out .exit))
+        ≡ after (domain-of l (now (links .entry)) (now («user_ids» .entry)) (now («user_links» .entry)) (now («channel_ids» .entry)) (now («channel_kinds» .entry))
+        (now (managers .entry)) (now (admitted .entry)) (now (joined .entry)) (now («token_ids» .entry)) (now («token_states» .entry)) (now («token_values» .entry))) (loses p) (now (out .entry))) ⌝ }
 {
     let open = *links;
     if !serve_refuse::is_open(open, p) {
@@ -118,16 +118,16 @@ pub fn lose(
     let none = [0u8; 0];
     long_event(
         links,
-        names,
-        homes,
-        ids,
-        roles,
-        chairs,
-        guests,
-        marks,
-        keys,
-        modes,
-        values,
+        user_ids,
+        user_links,
+        channel_ids,
+        channel_kinds,
+        managers,
+        admitted,
+        joined,
+        token_ids,
+        token_states,
+        token_values,
         p,
         true,
         &none,
@@ -139,24 +139,24 @@ pub fn lose(
 pub fn message(
     limits: domain::Limits,
     links: &mut u16,
-    names: &mut [u16; 64],
-    homes: &mut [u8; 64],
-    ids: &mut [u16; 128],
-    roles: &mut [u8; 128],
-    chairs: &mut [u8; 128],
-    guests: &mut [u64; 128],
-    marks: &mut [u16; 128],
-    keys: &mut [u16; 64],
-    modes: &mut [u8; 64],
-    values: &mut [u64; 64],
+    user_ids: &mut [u16; 64],
+    user_links: &mut [u8; 64],
+    channel_ids: &mut [u16; 128],
+    channel_kinds: &mut [u8; 128],
+    managers: &mut [u8; 128],
+    admitted: &mut [u64; 128],
+    joined: &mut [u16; 128],
+    token_ids: &mut [u16; 64],
+    token_states: &mut [u8; 64],
+    token_values: &mut [u64; 64],
     p: u8,
     octets: &[u8],
     out: &mut [u8],
 ) -> Answer
-    ensures { λ r. ⌜ answered r (domain-of limits (now (links .exit)) (now (names .exit)) (now (homes .exit)) (now (ids .exit)) (now (roles .exit))
-        (now (chairs .exit)) (now (guests .exit)) (now (marks .exit)) (now (keys .exit)) (now (modes .exit)) (now (values .exit))) (now (out .exit))
-        ≡ after (domain-of limits (now (links .entry)) (now (names .entry)) (now (homes .entry)) (now (ids .entry)) (now (roles .entry))
-        (now (chairs .entry)) (now (guests .entry)) (now (marks .entry)) (now (keys .entry)) (now (modes .entry)) (now (values .entry))) (hears p (understood (now (octets .entry)))) (now (out .entry)) ⌝ }
+    ensures { λ r. ⌜ answered r (domain-of limits (now (links .exit)) (now («user_ids» .exit)) (now («user_links» .exit)) (now («channel_ids» .exit)) (now («channel_kinds» .exit))
+        (now (managers .exit)) (now (admitted .exit)) (now (joined .exit)) (now («token_ids» .exit)) (now («token_states» .exit)) (now («token_values» .exit))) (now (out .exit))
+        ≡ after (domain-of limits (now (links .entry)) (now («user_ids» .entry)) (now («user_links» .entry)) (now («channel_ids» .entry)) (now («channel_kinds» .entry))
+        (now (managers .entry)) (now (admitted .entry)) (now (joined .entry)) (now («token_ids» .entry)) (now («token_states» .entry)) (now («token_values» .entry))) (hears p (understood (now (octets .entry)))) (now (out .entry)) ⌝ }
 {
     let open = *links;
     if !serve_refuse::is_open(open, p) {
@@ -169,11 +169,11 @@ pub fn message(
     if w.ok {
         return serve_tokens::request(
             limits,
-            names,
-            homes,
-            keys,
-            modes,
-            values,
+            user_ids,
+            user_links,
+            token_ids,
+            token_states,
+            token_values,
             p,
             w.number,
             w.user,
@@ -186,13 +186,13 @@ pub fn message(
     if q.ok {
         return serve_dispatch::brief_request(
             limits,
-            names,
-            homes,
-            ids,
-            roles,
-            chairs,
-            guests,
-            marks,
+            user_ids,
+            user_links,
+            channel_ids,
+            channel_kinds,
+            managers,
+            admitted,
+            joined,
             p,
             q.number,
             q.first,
@@ -202,16 +202,16 @@ pub fn message(
     }
     long_event(
         links,
-        names,
-        homes,
-        ids,
-        roles,
-        chairs,
-        guests,
-        marks,
-        keys,
-        modes,
-        values,
+        user_ids,
+        user_links,
+        channel_ids,
+        channel_kinds,
+        managers,
+        admitted,
+        joined,
+        token_ids,
+        token_states,
+        token_values,
         p,
         false,
         octets,

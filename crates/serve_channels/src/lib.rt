@@ -23,54 +23,62 @@ use serve_reply::confirms;
 
 // AUrq on p.
 pub fn attach(
-    names: &mut [u16; 64],
-    homes: &mut [u8; 64],
-    ids: &mut [u16; 128],
-    roles: &mut [u8; 128],
-    chairs: &mut [u8; 128],
-    guests: &mut [u64; 128],
-    marks: &mut [u16; 128],
+    user_ids: &mut [u16; 64],
+    user_links: &mut [u8; 64],
+    channel_ids: &mut [u16; 128],
+    channel_kinds: &mut [u8; 128],
+    managers: &mut [u8; 128],
+    admitted: &mut [u64; 128],
+    joined: &mut [u16; 128],
     userlimit: u8,
     limit: u8,
     p: u8,
     out: &mut [u8],
 ) -> Answer
     ensures { λ r. ⌜ answered {A = Users × Channels} r (
-      users-of (now (names .exit)) (now (homes .exit)),
-      channels-of (now (ids .exit)) (now (roles .exit)) (now (chairs .exit)) (now (guests .exit)) (now (marks .exit)),
+      users-of (now («user_ids» .exit)) (now («user_links» .exit)),
+      channels-of (now («channel_ids» .exit)) (now («channel_kinds» .exit)) (now (managers .exit)) (now (admitted .exit)) (now (joined .exit)),
     ) (now (out .exit))
         ≡ settle (
-          users-of (now (names .entry)) (now (homes .entry)),
-          channels-of (now (ids .entry)) (now (roles .entry)) (now (chairs .entry)) (now (guests .entry)) (now (marks .entry)),
+          users-of (now («user_ids» .entry)) (now («user_links» .entry)),
+          channels-of (now («channel_ids» .entry)) (now («channel_kinds» .entry)) (now (managers .entry)) (now (admitted .entry)) (now (joined .entry)),
         )
-        (attachOf (grant (channels-of (now (ids .entry)) (now (roles .entry)) (now (chairs .entry)) (now (guests .entry)) (now (marks .entry))))
-        (at-limit userlimit (now (names .entry))) (at-limit limit (now (ids .entry))) (users-of (now (names .entry)) (now (homes .entry)))
-        (channels-of (now (ids .entry)) (now (roles .entry)) (now (chairs .entry)) (now (guests .entry)) (now (marks .entry))) p)
+        (attachOf (grant (channels-of (now («channel_ids» .entry)) (now («channel_kinds» .entry)) (now (managers .entry)) (now (admitted .entry)) (now (joined .entry))))
+        (at-limit userlimit (now («user_ids» .entry))) (at-limit limit (now («channel_ids» .entry))) (users-of (now («user_ids» .entry)) (now («user_links» .entry)))
+        (channels-of (now («channel_ids» .entry)) (now («channel_kinds» .entry)) (now (managers .entry)) (now (admitted .entry)) (now (joined .entry))) p)
         (now (out .entry)) ⌝ }
 {
-    if domain_tables::at_limit(userlimit, names) {
+    if domain_tables::at_limit(userlimit, user_ids) {
         return confirms::deny_user(out, p, Result::TooManyUsers);
     }
-    if domain_tables::at_limit(limit, ids) {
+    if domain_tables::at_limit(limit, channel_ids) {
         return confirms::deny_user(out, p, Result::TooManyChannels);
     }
-    let new = cols_walk::unused(ids);
+    let new = cols_walk::unused(channel_ids);
     let a = confirms::take_user(out, p, new);
     if serve_reply::refused(a) {
         return a;
     }
-    domain_tables::users::add_user(names, homes, new, p);
+    domain_tables::users::add_user(user_ids, user_links, new, p);
     let ch = domain_state::channel::new_channel(Kind::User, 0);
-    domain_tables::channels::add_channel(ids, roles, chairs, guests, marks, new, ch);
+    domain_tables::channels::add_channel(
+        channel_ids,
+        channel_kinds,
+        managers,
+        admitted,
+        joined,
+        new,
+        ch,
+    );
     a
 }
 
 // CJrq for the channel at place j, by the user u at place i.
 fn join_at(
-    roles: &mut [u8; 128],
-    chairs: &mut [u8; 128],
-    guests: &mut [u64; 128],
-    marks: &mut [u16; 128],
+    channel_kinds: &mut [u8; 128],
+    managers: &mut [u8; 128],
+    admitted: &mut [u64; 128],
+    joined: &mut [u16; 128],
     p: u8,
     u: u16,
     c: u16,
@@ -78,12 +86,12 @@ fn join_at(
     j: usize,
     out: &mut [u8],
 ) -> Answer
-    ensures { λ r. ⌜ ((ids : List ℕ) → answered r (channels-of ids (now (roles .exit)) (now (chairs .exit)) (now (guests .exit)) (now (marks .exit))) (now (out .exit))
-        ≡ settle (channels-of ids (now (roles .entry)) (now (chairs .entry)) (now (guests .entry)) (now (marks .entry)))
-        (join-at (channels-of ids (now (roles .entry)) (now (chairs .entry)) (now (guests .entry)) (now (marks .entry))) p u c j
-        (may (kind (channel (channels-of ids (now (roles .entry)) (now (chairs .entry)) (now (guests .entry)) (now (marks .entry))) j)) c u i)) (now (out .entry))) ⌝ }
+    ensures { λ r. ⌜ ((ids : List ℕ) → answered r (channels-of ids (now («channel_kinds» .exit)) (now (managers .exit)) (now (admitted .exit)) (now (joined .exit))) (now (out .exit))
+        ≡ settle (channels-of ids (now («channel_kinds» .entry)) (now (managers .entry)) (now (admitted .entry)) (now (joined .entry)))
+        (join-at (channels-of ids (now («channel_kinds» .entry)) (now (managers .entry)) (now (admitted .entry)) (now (joined .entry))) p u c j
+        (may (kind (channel (channels-of ids (now («channel_kinds» .entry)) (now (managers .entry)) (now (admitted .entry)) (now (joined .entry))) j)) c u i)) (now (out .entry))) ⌝ }
 {
-    let ch = domain_tables::channels::channel_at(roles, chairs, guests, marks, j);
+    let ch = domain_tables::channels::channel_at(channel_kinds, managers, admitted, joined, j);
     let result = domain_state::channel::may_join(domain_state::channel::kind_of(ch), c, u, i);
     if 0 < domain_state::numbers::result_number(result) {
         return confirms::deny_join(out, p, result, u, c);
@@ -98,17 +106,17 @@ fn join_at(
         guests: ch.guests,
         marks: cols_masks::with_link(ch.marks, p),
     };
-    domain_tables::channels::set_channel(roles, chairs, guests, marks, j, now);
+    domain_tables::channels::set_channel(channel_kinds, managers, admitted, joined, j, now);
     a
 }
 
 // A new channel of a kind, which p has joined.
 fn start(
-    ids: &mut [u16; 128],
-    roles: &mut [u8; 128],
-    chairs: &mut [u8; 128],
-    guests: &mut [u64; 128],
-    marks: &mut [u16; 128],
+    channel_ids: &mut [u16; 128],
+    channel_kinds: &mut [u8; 128],
+    managers: &mut [u8; 128],
+    admitted: &mut [u64; 128],
+    joined: &mut [u16; 128],
     k: Kind,
     new: u16,
     p: u8,
@@ -116,9 +124,9 @@ fn start(
     c: u16,
     out: &mut [u8],
 ) -> Answer
-    ensures { λ r. ⌜ answered r (channels-of (now (ids .exit)) (now (roles .exit)) (now (chairs .exit)) (now (guests .exit)) (now (marks .exit))) (now (out .exit))
-        ≡ settle (channels-of (now (ids .entry)) (now (roles .entry)) (now (chairs .entry)) (now (guests .entry)) (now (marks .entry)))
-        (done (add-channel (channels-of (now (ids .entry)) (now (roles .entry)) (now (chairs .entry)) (now (guests .entry)) (now (marks .entry))) new (channel-of k (only allLinks p)))
+    ensures { λ r. ⌜ answered r (channels-of (now («channel_ids» .exit)) (now («channel_kinds» .exit)) (now (managers .exit)) (now (admitted .exit)) (now (joined .exit))) (now (out .exit))
+        ≡ settle (channels-of (now («channel_ids» .entry)) (now («channel_kinds» .entry)) (now (managers .entry)) (now (admitted .entry)) (now (joined .entry)))
+        (done (add-channel (channels-of (now («channel_ids» .entry)) (now («channel_kinds» .entry)) (now (managers .entry)) (now (admitted .entry)) (now (joined .entry))) new (channel-of k (only allLinks p)))
         (to p (CJcf successful u c (some new)) ∷ [])) (now (out .entry)) ⌝ }
 {
     let a = confirms::take_join(out, p, u, c, new);
@@ -126,32 +134,40 @@ fn start(
         return a;
     }
     let ch = domain_state::channel::new_channel(k, cols_masks::link(p));
-    domain_tables::channels::add_channel(ids, roles, chairs, guests, marks, new, ch);
+    domain_tables::channels::add_channel(
+        channel_ids,
+        channel_kinds,
+        managers,
+        admitted,
+        joined,
+        new,
+        ch,
+    );
     a
 }
 
 // CJrq for a channel not in use.
 fn join_new(
-    ids: &mut [u16; 128],
-    roles: &mut [u8; 128],
-    chairs: &mut [u8; 128],
-    guests: &mut [u64; 128],
-    marks: &mut [u16; 128],
+    channel_ids: &mut [u16; 128],
+    channel_kinds: &mut [u8; 128],
+    managers: &mut [u8; 128],
+    admitted: &mut [u64; 128],
+    joined: &mut [u16; 128],
     limit: u8,
     p: u8,
     u: u16,
     c: u16,
     out: &mut [u8],
 ) -> Answer
-    ensures { λ r. ⌜ answered r (channels-of (now (ids .exit)) (now (roles .exit)) (now (chairs .exit)) (now (guests .exit)) (now (marks .exit))) (now (out .exit))
-        ≡ settle (channels-of (now (ids .entry)) (now (roles .entry)) (now (chairs .entry)) (now (guests .entry)) (now (marks .entry)))
-        (join-new (grant (channels-of (now (ids .entry)) (now (roles .entry)) (now (chairs .entry)) (now (guests .entry)) (now (marks .entry)))) (at-limit limit (now (ids .entry)))
-        (channels-of (now (ids .entry)) (now (roles .entry)) (now (chairs .entry)) (now (guests .entry)) (now (marks .entry))) p u c) (now (out .entry)) ⌝ }
+    ensures { λ r. ⌜ answered r (channels-of (now («channel_ids» .exit)) (now («channel_kinds» .exit)) (now (managers .exit)) (now (admitted .exit)) (now (joined .exit))) (now (out .exit))
+        ≡ settle (channels-of (now («channel_ids» .entry)) (now («channel_kinds» .entry)) (now (managers .entry)) (now (admitted .entry)) (now (joined .entry)))
+        (join-new (grant (channels-of (now («channel_ids» .entry)) (now («channel_kinds» .entry)) (now (managers .entry)) (now (admitted .entry)) (now (joined .entry)))) (at-limit limit (now («channel_ids» .entry)))
+        (channels-of (now («channel_ids» .entry)) (now («channel_kinds» .entry)) (now (managers .entry)) (now (admitted .entry)) (now (joined .entry))) p u c) (now (out .entry)) ⌝ }
 {
     if 1000 < c {
         return confirms::deny_join(out, p, Result::NoSuchChannel, u, c);
     }
-    if domain_tables::at_limit(limit, ids) {
+    if domain_tables::at_limit(limit, channel_ids) {
         return confirms::deny_join(out, p, Result::TooManyChannels, u, c);
     }
     // A static channel; where c is 0, an assigned one with an id of its own.
@@ -159,59 +175,93 @@ fn join_new(
     let mut new = c;
     if c == 0 {
         kind = Kind::Assigned;
-        new = cols_walk::unused(ids);
+        new = cols_walk::unused(channel_ids);
     }
-    start(ids, roles, chairs, guests, marks, kind, new, p, u, c, out)
+    start(
+        channel_ids,
+        channel_kinds,
+        managers,
+        admitted,
+        joined,
+        kind,
+        new,
+        p,
+        u,
+        c,
+        out,
+    )
 }
 
 // CJrq by u on p for channel c.
 pub fn join(
-    names: &[u16; 64],
-    homes: &[u8; 64],
-    ids: &mut [u16; 128],
-    roles: &mut [u8; 128],
-    chairs: &mut [u8; 128],
-    guests: &mut [u64; 128],
-    marks: &mut [u16; 128],
+    user_ids: &[u16; 64],
+    user_links: &[u8; 64],
+    channel_ids: &mut [u16; 128],
+    channel_kinds: &mut [u8; 128],
+    managers: &mut [u8; 128],
+    admitted: &mut [u64; 128],
+    joined: &mut [u16; 128],
     limit: u8,
     p: u8,
     u: u16,
     c: u16,
     out: &mut [u8],
 ) -> Answer
-    ensures { λ r. ⌜ answered r (channels-of (now (ids .exit)) (now (roles .exit)) (now (chairs .exit)) (now (guests .exit)) (now (marks .exit))) (now (out .exit))
-        ≡ settle (channels-of (now (ids .entry)) (now (roles .entry)) (now (chairs .entry)) (now (guests .entry)) (now (marks .entry)))
-        (joinOf (grant (channels-of (now (ids .entry)) (now (roles .entry)) (now (chairs .entry)) (now (guests .entry)) (now (marks .entry))))
-        (at-limit limit (now (ids .entry))) (users-of (now (names .entry)) (now (homes .entry)))
-        (channels-of (now (ids .entry)) (now (roles .entry)) (now (chairs .entry)) (now (guests .entry)) (now (marks .entry))) p u c)
+    ensures { λ r. ⌜ answered r (channels-of (now («channel_ids» .exit)) (now («channel_kinds» .exit)) (now (managers .exit)) (now (admitted .exit)) (now (joined .exit))) (now (out .exit))
+        ≡ settle (channels-of (now («channel_ids» .entry)) (now («channel_kinds» .entry)) (now (managers .entry)) (now (admitted .entry)) (now (joined .entry)))
+        (joinOf (grant (channels-of (now («channel_ids» .entry)) (now («channel_kinds» .entry)) (now (managers .entry)) (now (admitted .entry)) (now (joined .entry))))
+        (at-limit limit (now («channel_ids» .entry))) (users-of (now («user_ids» .entry)) (now («user_links» .entry)))
+        (channels-of (now («channel_ids» .entry)) (now («channel_kinds» .entry)) (now (managers .entry)) (now (admitted .entry)) (now (joined .entry))) p u c)
         (now (out .entry)) ⌝ }
 {
-    let i = serve_reply::initiator(names, homes, p, u);
+    let i = serve_reply::initiator(user_ids, user_links, p, u);
     if 64 <= i {
         return serve_reply::ignored();
     }
-    let j = cols_find::find(ids, c);
+    let j = cols_find::find(channel_ids, c);
     if j < 128 {
-        return join_at(roles, chairs, guests, marks, p, u, c, i as u8, j, out);
+        return join_at(
+            channel_kinds,
+            managers,
+            admitted,
+            joined,
+            p,
+            u,
+            c,
+            i as u8,
+            j,
+            out,
+        );
     }
-    join_new(ids, roles, chairs, guests, marks, limit, p, u, c, out)
+    join_new(
+        channel_ids,
+        channel_kinds,
+        managers,
+        admitted,
+        joined,
+        limit,
+        p,
+        u,
+        c,
+        out,
+    )
 }
 
 // p has joined channel c.
 fn joined(
-    ids: &[u16; 128],
-    roles: &[u8; 128],
-    chairs: &[u8; 128],
-    guests: &[u64; 128],
-    marks: &[u16; 128],
+    channel_ids: &[u16; 128],
+    channel_kinds: &[u8; 128],
+    managers: &[u8; 128],
+    admitted: &[u64; 128],
+    joined: &[u16; 128],
     p: u8,
     c: u16,
 ) -> bool
-    ensures { λ r. ⌜ r ≡ joinedIn (channels-of (now (ids .entry)) (now (roles .entry)) (now (chairs .entry)) (now (guests .entry)) (now (marks .entry))) p c ⌝ }
+    ensures { λ r. ⌜ r ≡ joinedIn (channels-of (now («channel_ids» .entry)) (now («channel_kinds» .entry)) (now (managers .entry)) (now (admitted .entry)) (now (joined .entry))) p c ⌝ }
 {
-    let j = cols_find::find(ids, c);
+    let j = cols_find::find(channel_ids, c);
     if j < 128 {
-        let ch = domain_tables::channels::channel_at(roles, chairs, guests, marks, j);
+        let ch = domain_tables::channels::channel_at(channel_kinds, managers, admitted, joined, j);
         return cols_masks::has(ch.marks as u64, p);
     }
     false
@@ -219,19 +269,27 @@ fn joined(
 
 // p has joined one of the listed channels.
 fn joined_any(
-    ids: &[u16; 128],
-    roles: &[u8; 128],
-    chairs: &[u8; 128],
-    guests: &[u64; 128],
-    marks: &[u16; 128],
+    channel_ids: &[u16; 128],
+    channel_kinds: &[u8; 128],
+    managers: &[u8; 128],
+    admitted: &[u64; 128],
+    joined: &[u16; 128],
     p: u8,
     listed: &[u16],
 ) -> bool
-    ensures { λ r. ⌜ r ≡ any (joinedIn (channels-of (now (ids .entry)) (now (roles .entry)) (now (chairs .entry)) (now (guests .entry)) (now (marks .entry))) p) (now (listed .entry)) ⌝ }
+    ensures { λ r. ⌜ r ≡ any (joinedIn (channels-of (now («channel_ids» .entry)) (now («channel_kinds» .entry)) (now (managers .entry)) (now (admitted .entry)) (now (joined .entry))) p) (now (listed .entry)) ⌝ }
 {
     let mut i = 0;
     while i < listed.len() {
-        if joined(ids, roles, chairs, guests, marks, p, listed[i]) {
+        if joined(
+            channel_ids,
+            channel_kinds,
+            managers,
+            admitted,
+            joined,
+            p,
+            listed[i],
+        ) {
             return true;
         }
         i += 1;
@@ -251,29 +309,36 @@ fn ends(ch: Channel, left: u16) -> bool
 
 // p leaves the channel at place j, where that is listed.
 fn leave_at(
-    ids: &mut [u16; 128],
-    roles: &mut [u8; 128],
-    chairs: &mut [u8; 128],
-    guests: &mut [u64; 128],
-    marks: &mut [u16; 128],
+    channel_ids: &mut [u16; 128],
+    channel_kinds: &mut [u8; 128],
+    managers: &mut [u8; 128],
+    admitted: &mut [u64; 128],
+    joined: &mut [u16; 128],
     p: u8,
     listed: &[u16],
     j: usize,
 )
     requires { ⌜ j < 128 ⌝ }
     ensures { λ _. ⌜ Turns no-channel (anywhere (left p (now (listed .entry)))) j
-        (now (ids .entry)) (channel-cells (now (roles .entry)) (now (chairs .entry)) (now (guests .entry)) (now (marks .entry)))
-        (now (ids .exit)) (channel-cells (now (roles .exit)) (now (chairs .exit)) (now (guests .exit)) (now (marks .exit))) ⌝ }
+        (now («channel_ids» .entry)) (channel-cells (now («channel_kinds» .entry)) (now (managers .entry)) (now (admitted .entry)) (now (joined .entry)))
+        (now («channel_ids» .exit)) (channel-cells (now («channel_kinds» .exit)) (now (managers .exit)) (now (admitted .exit)) (now (joined .exit))) ⌝ }
 {
-    let c = ids[j];
+    let c = channel_ids[j];
     if c == 0 {
         return;
     }
     if cols_walk::member(listed, c) {
-        let ch = domain_tables::channels::channel_at(roles, chairs, guests, marks, j);
+        let ch = domain_tables::channels::channel_at(channel_kinds, managers, admitted, joined, j);
         let left = cols_masks::without_link(ch.marks, p);
         if ends(ch, left) {
-            domain_tables::channels::end_channel(ids, roles, chairs, guests, marks, j);
+            domain_tables::channels::end_channel(
+                channel_ids,
+                channel_kinds,
+                managers,
+                admitted,
+                joined,
+                j,
+            );
             return;
         }
         let now = Channel {
@@ -282,71 +347,96 @@ fn leave_at(
             guests: ch.guests,
             marks: left,
         };
-        domain_tables::channels::set_channel(roles, chairs, guests, marks, j, now);
+        domain_tables::channels::set_channel(channel_kinds, managers, admitted, joined, j, now);
     }
 }
 
 // How many places there are.
 fn width(
-    ids: &[u16; 128],
-    roles: &[u8; 128],
-    chairs: &[u8; 128],
-    guests: &[u64; 128],
-    marks: &[u16; 128],
+    channel_ids: &[u16; 128],
+    channel_kinds: &[u8; 128],
+    managers: &[u8; 128],
+    admitted: &[u64; 128],
+    joined: &[u16; 128],
 ) -> usize
-    ensures { λ r. ⌜ (r ≡ 128) × (length (now (ids .entry)) ≡ 128) × (length (channel-cells (now (roles .entry)) (now (chairs .entry)) (now (guests .entry)) (now (marks .entry))) ≡ 128) ⌝ }
+    ensures { λ r. ⌜ (r ≡ 128) × (length (now («channel_ids» .entry)) ≡ 128) × (length (channel-cells (now («channel_kinds» .entry)) (now (managers .entry)) (now (admitted .entry)) (now (joined .entry))) ≡ 128) ⌝ }
 {
-    let a = &ids[..];
-    let b = &roles[..];
-    let c = &chairs[..];
-    let d = &guests[..];
-    let e = &marks[..];
+    let a = &channel_ids[..];
+    let b = &channel_kinds[..];
+    let c = &managers[..];
+    let d = &admitted[..];
+    let e = &joined[..];
     a.len()
 }
 
 // p leaves each listed channel.
 fn leave_all(
-    ids: &mut [u16; 128],
-    roles: &mut [u8; 128],
-    chairs: &mut [u8; 128],
-    guests: &mut [u64; 128],
-    marks: &mut [u16; 128],
+    channel_ids: &mut [u16; 128],
+    channel_kinds: &mut [u8; 128],
+    managers: &mut [u8; 128],
+    admitted: &mut [u64; 128],
+    joined: &mut [u16; 128],
     p: u8,
     listed: &[u16],
 )
-    ensures { λ _. ⌜ channels-of (now (ids .exit)) (now (roles .exit)) (now (chairs .exit)) (now (guests .exit)) (now (marks .exit))
-        ≡ sweep-channels (left p (now (listed .entry))) (channels-of (now (ids .entry)) (now (roles .entry)) (now (chairs .entry)) (now (guests .entry)) (now (marks .entry))) ⌝ }
+    ensures { λ _. ⌜ channels-of (now («channel_ids» .exit)) (now («channel_kinds» .exit)) (now (managers .exit)) (now (admitted .exit)) (now (joined .exit))
+        ≡ sweep-channels (left p (now (listed .entry))) (channels-of (now («channel_ids» .entry)) (now («channel_kinds» .entry)) (now (managers .entry)) (now (admitted .entry)) (now (joined .entry))) ⌝ }
 {
-    let n = width(ids, roles, chairs, guests, marks);
-    let mut j = cols_walk::used_from(ids, 0);
+    let n = width(channel_ids, channel_kinds, managers, admitted, joined);
+    let mut j = cols_walk::used_from(channel_ids, 0);
     while j < n {
-        leave_at(ids, roles, chairs, guests, marks, p, listed, j);
-        j = cols_walk::used_from(ids, j + 1);
+        leave_at(
+            channel_ids,
+            channel_kinds,
+            managers,
+            admitted,
+            joined,
+            p,
+            listed,
+            j,
+        );
+        j = cols_walk::used_from(channel_ids, j + 1);
     }
 }
 
 // CLrq on p: the first `count` of the ids.
 pub fn leave_channels(
-    ids: &mut [u16; 128],
-    roles: &mut [u8; 128],
-    chairs: &mut [u8; 128],
-    guests: &mut [u64; 128],
-    marks: &mut [u16; 128],
+    channel_ids: &mut [u16; 128],
+    channel_kinds: &mut [u8; 128],
+    managers: &mut [u8; 128],
+    admitted: &mut [u64; 128],
+    joined: &mut [u16; 128],
     p: u8,
     listed: &[u16; 64],
     count: usize,
     out: &mut [u8],
 ) -> Answer
-    ensures { λ r. ⌜ answered r (channels-of (now (ids .exit)) (now (roles .exit)) (now (chairs .exit)) (now (guests .exit)) (now (marks .exit))) (now (out .exit))
-        ≡ settle (channels-of (now (ids .entry)) (now (roles .entry)) (now (chairs .entry)) (now (guests .entry)) (now (marks .entry)))
-        (leaveOf (channels-of (now (ids .entry)) (now (roles .entry)) (now (chairs .entry)) (now (guests .entry)) (now (marks .entry))) p (take count (now (listed .entry))))
+    ensures { λ r. ⌜ answered r (channels-of (now («channel_ids» .exit)) (now («channel_kinds» .exit)) (now (managers .exit)) (now (admitted .exit)) (now (joined .exit))) (now (out .exit))
+        ≡ settle (channels-of (now («channel_ids» .entry)) (now («channel_kinds» .entry)) (now (managers .entry)) (now (admitted .entry)) (now (joined .entry)))
+        (leaveOf (channels-of (now («channel_ids» .entry)) (now («channel_kinds» .entry)) (now (managers .entry)) (now (admitted .entry)) (now (joined .entry))) p (take count (now (listed .entry))))
         (now (out .entry)) ⌝ }
 {
     let all = &listed[..];
     let n = cols_walk::at_most(count, all.len());
     let list = &all[..n];
-    if joined_any(ids, roles, chairs, guests, marks, p, list) {
-        leave_all(ids, roles, chairs, guests, marks, p, list);
+    if joined_any(
+        channel_ids,
+        channel_kinds,
+        managers,
+        admitted,
+        joined,
+        p,
+        list,
+    ) {
+        leave_all(
+            channel_ids,
+            channel_kinds,
+            managers,
+            admitted,
+            joined,
+            p,
+            list,
+        );
         return Answer {
             reply: Reply::Done,
             sent: 0,

@@ -15,26 +15,26 @@ use domain::numbers::Reply;
 // The requests of a few ids that are not about tokens: AUrq, CJrq, CCrq, CDrq.
 pub fn brief_request(
     limits: Limits,
-    names: &mut [u16; 64],
-    homes: &mut [u8; 64],
-    ids: &mut [u16; 128],
-    roles: &mut [u8; 128],
-    chairs: &mut [u8; 128],
-    guests: &mut [u64; 128],
-    marks: &mut [u16; 128],
+    user_ids: &mut [u16; 64],
+    user_links: &mut [u8; 64],
+    channel_ids: &mut [u16; 128],
+    channel_kinds: &mut [u8; 128],
+    managers: &mut [u8; 128],
+    admitted: &mut [u64; 128],
+    joined: &mut [u16; 128],
     p: u8,
     number: u32,
     first: u16,
     second: u16,
     out: &mut [u8],
 ) -> Answer
-    ensures { λ r. ⌜ ((m : ℕ) (ts : Tokens) → answered r (joined limits m (users-of (now (names .exit)) (now (homes .exit)))
-        (channels-of (now (ids .exit)) (now (roles .exit)) (now (chairs .exit)) (now (guests .exit)) (now (marks .exit))) ts) (now (out .exit))
-        ≡ settle (joined limits m (users-of (now (names .entry)) (now (homes .entry)))
-        (channels-of (now (ids .entry)) (now (roles .entry)) (now (chairs .entry)) (now (guests .entry)) (now (marks .entry))) ts)
-        (act (grant (channels-of (now (ids .entry)) (now (roles .entry)) (now (chairs .entry)) (now (guests .entry)) (now (marks .entry))))
-        (joined limits m (users-of (now (names .entry)) (now (homes .entry)))
-        (channels-of (now (ids .entry)) (now (roles .entry)) (now (chairs .entry)) (now (guests .entry)) (now (marks .entry))) ts)
+    ensures { λ r. ⌜ ((m : ℕ) (ts : Tokens) → answered r (joined limits m (users-of (now («user_ids» .exit)) (now («user_links» .exit)))
+        (channels-of (now («channel_ids» .exit)) (now («channel_kinds» .exit)) (now (managers .exit)) (now (admitted .exit)) (now (joined .exit))) ts) (now (out .exit))
+        ≡ settle (joined limits m (users-of (now («user_ids» .entry)) (now («user_links» .entry)))
+        (channels-of (now («channel_ids» .entry)) (now («channel_kinds» .entry)) (now (managers .entry)) (now (admitted .entry)) (now (joined .entry))) ts)
+        (act (grant (channels-of (now («channel_ids» .entry)) (now («channel_kinds» .entry)) (now (managers .entry)) (now (admitted .entry)) (now (joined .entry))))
+        (joined limits m (users-of (now («user_ids» .entry)) (now («user_links» .entry)))
+        (channels-of (now («channel_ids» .entry)) (now («channel_kinds» .entry)) (now (managers .entry)) (now (admitted .entry)) (now (joined .entry))) ts)
         p (brief-request number first second)) (now (out .entry))) ⌝ }
 {
     match number {
@@ -42,13 +42,13 @@ pub fn brief_request(
             let users = limits.users;
             let most = limits.channels;
             serve_channels::attach(
-                names,
-                homes,
-                ids,
-                roles,
-                chairs,
-                guests,
-                marks,
+                user_ids,
+                user_links,
+                channel_ids,
+                channel_kinds,
+                managers,
+                admitted,
+                joined,
                 users,
                 most,
                 p,
@@ -58,13 +58,13 @@ pub fn brief_request(
         14 => {
             let most = limits.channels;
             serve_channels::join(
-                names,
-                homes,
-                ids,
-                roles,
-                chairs,
-                guests,
-                marks,
+                user_ids,
+                user_links,
+                channel_ids,
+                channel_kinds,
+                managers,
+                admitted,
+                joined,
                 most,
                 p,
                 first,
@@ -75,13 +75,13 @@ pub fn brief_request(
         17 => {
             let most = limits.channels;
             serve_private::convene(
-                names,
-                homes,
-                ids,
-                roles,
-                chairs,
-                guests,
-                marks,
+                user_ids,
+                user_links,
+                channel_ids,
+                channel_kinds,
+                managers,
+                admitted,
+                joined,
                 most,
                 p,
                 first,
@@ -89,13 +89,13 @@ pub fn brief_request(
             )
         }
         _ => serve_private::disband(
-            names,
-            homes,
-            ids,
-            roles,
-            chairs,
-            guests,
-            marks,
+            user_ids,
+            user_links,
+            channel_ids,
+            channel_kinds,
+            managers,
+            admitted,
+            joined,
             p,
             first,
             second,
@@ -107,16 +107,16 @@ pub fn brief_request(
 // The requests with a list of ids, and EDrq, DPum and RJum. All but DUrq that leave close; the list lent is worked in.
 pub fn listed_request(
     links: &mut u16,
-    names: &mut [u16; 64],
-    homes: &mut [u8; 64],
-    ids: &mut [u16; 128],
-    roles: &mut [u8; 128],
-    chairs: &mut [u8; 128],
-    guests: &mut [u64; 128],
-    marks: &mut [u16; 128],
-    keys: &mut [u16; 64],
-    modes: &mut [u8; 64],
-    values: &mut [u64; 64],
+    user_ids: &mut [u16; 64],
+    user_links: &mut [u8; 64],
+    channel_ids: &mut [u16; 128],
+    channel_kinds: &mut [u8; 128],
+    managers: &mut [u8; 128],
+    admitted: &mut [u64; 128],
+    joined: &mut [u16; 128],
+    token_ids: &mut [u16; 64],
+    token_states: &mut [u8; 64],
+    token_values: &mut [u64; 64],
     p: u8,
     number: u32,
     first: u16,
@@ -125,13 +125,13 @@ pub fn listed_request(
     count: usize,
     out: &mut [u8],
 ) -> Answer
-    ensures { λ r. ⌜ ((l : LimitsOf) → answered r (domain-of l (now (links .exit)) (now (names .exit)) (now (homes .exit)) (now (ids .exit)) (now (roles .exit))
-        (now (chairs .exit)) (now (guests .exit)) (now (marks .exit)) (now (keys .exit)) (now (modes .exit)) (now (values .exit))) (now (out .exit))
-        ≡ settle (domain-of l (now (links .entry)) (now (names .entry)) (now (homes .entry)) (now (ids .entry)) (now (roles .entry))
-        (now (chairs .entry)) (now (guests .entry)) (now (marks .entry)) (now (keys .entry)) (now (modes .entry)) (now (values .entry)))
-        (act (grant (channels-of (now (ids .entry)) (now (roles .entry)) (now (chairs .entry)) (now (guests .entry)) (now (marks .entry))))
-        (domain-of l (now (links .entry)) (now (names .entry)) (now (homes .entry)) (now (ids .entry)) (now (roles .entry))
-        (now (chairs .entry)) (now (guests .entry)) (now (marks .entry)) (now (keys .entry)) (now (modes .entry)) (now (values .entry)))
+    ensures { λ r. ⌜ ((l : LimitsOf) → answered r (domain-of l (now (links .exit)) (now («user_ids» .exit)) (now («user_links» .exit)) (now («channel_ids» .exit)) (now («channel_kinds» .exit))
+        (now (managers .exit)) (now (admitted .exit)) (now (joined .exit)) (now («token_ids» .exit)) (now («token_states» .exit)) (now («token_values» .exit))) (now (out .exit))
+        ≡ settle (domain-of l (now (links .entry)) (now («user_ids» .entry)) (now («user_links» .entry)) (now («channel_ids» .entry)) (now («channel_kinds» .entry))
+        (now (managers .entry)) (now (admitted .entry)) (now (joined .entry)) (now («token_ids» .entry)) (now («token_states» .entry)) (now («token_values» .entry)))
+        (act (grant (channels-of (now («channel_ids» .entry)) (now («channel_kinds» .entry)) (now (managers .entry)) (now (admitted .entry)) (now (joined .entry))))
+        (domain-of l (now (links .entry)) (now («user_ids» .entry)) (now («user_links» .entry)) (now («channel_ids» .entry)) (now («channel_kinds» .entry))
+        (now (managers .entry)) (now (admitted .entry)) (now (joined .entry)) (now («token_ids» .entry)) (now («token_states» .entry)) (now («token_values» .entry)))
         p (listed-request number first second (take count (now (listed .entry))))) (now (out .entry))) ⌝ }
 {
     match number {
@@ -140,11 +140,11 @@ pub fn listed_request(
             sent: 0,
         },
         16 => serve_channels::leave_channels(
-            ids,
-            roles,
-            chairs,
-            guests,
-            marks,
+            channel_ids,
+            channel_kinds,
+            managers,
+            admitted,
+            joined,
             p,
             listed,
             count,
@@ -153,13 +153,13 @@ pub fn listed_request(
         21 | 23 => {
             let admits = number == 21;
             serve_private::revise(
-                names,
-                homes,
-                ids,
-                roles,
-                chairs,
-                guests,
-                marks,
+                user_ids,
+                user_links,
+                channel_ids,
+                channel_kinds,
+                managers,
+                admitted,
+                joined,
                 p,
                 admits,
                 first,
@@ -174,16 +174,16 @@ pub fn listed_request(
             let reason = (first % 8) as u8;
             serve_leave::depart(
                 links,
-                names,
-                homes,
-                ids,
-                roles,
-                chairs,
-                guests,
-                marks,
-                keys,
-                modes,
-                values,
+                user_ids,
+                user_links,
+                channel_ids,
+                channel_kinds,
+                managers,
+                admitted,
+                joined,
+                token_ids,
+                token_states,
+                token_values,
                 closes,
                 p,
                 reason,

@@ -20,33 +20,33 @@ use domain::numbers::Reply;
 // counted for in a first turn, in which nothing is put.
 fn say(
     out: &mut [u8],
-    names: &[u16; 64],
-    homes: &[u8; 64],
-    ids: &[u16; 128],
-    roles: &[u8; 128],
-    chairs: &[u8; 128],
-    guests: &[u64; 128],
-    marks: &[u16; 128],
-    keys: &[u16; 64],
-    modes: &[u8; 64],
-    values: &[u64; 64],
+    user_ids: &[u16; 64],
+    user_links: &[u8; 64],
+    channel_ids: &[u16; 128],
+    channel_kinds: &[u8; 128],
+    managers: &[u8; 128],
+    admitted: &[u64; 128],
+    joined: &[u16; 128],
+    token_ids: &[u16; 64],
+    token_states: &[u8; 64],
+    token_values: &[u64; 64],
     gone: u64,
     live: u16,
     reason: u8,
     list: &[u16; 64],
     count: usize,
 ) -> usize
-    ensures { λ r. ⌜ ((l : Limits) (links : ℕ) → (r ≡ length (records (farewellOf (domain-of l links (now (names .entry)) (now (homes .entry)) (now (ids .entry)) (now (roles .entry))
-        (now (chairs .entry)) (now (guests .entry)) (now (marks .entry)) (now (keys .entry)) (now (modes .entry)) (now (values .entry)))
+    ensures { λ r. ⌜ ((l : Limits) (links : ℕ) → (r ≡ length (records (farewellOf (domain-of l links (now («user_ids» .entry)) (now («user_links» .entry)) (now («channel_ids» .entry)) (now («channel_kinds» .entry))
+        (now (managers .entry)) (now (admitted .entry)) (now (joined .entry)) (now («token_ids» .entry)) (now («token_states» .entry)) (now («token_values» .entry)))
         gone live reason (take count (now (list .entry))))))
-        × (r ≤ length (now (out .entry)) → Puts (now (out .entry)) 0 (records (farewellOf (domain-of l links (now (names .entry)) (now (homes .entry)) (now (ids .entry)) (now (roles .entry))
-        (now (chairs .entry)) (now (guests .entry)) (now (marks .entry)) (now (keys .entry)) (now (modes .entry)) (now (values .entry)))
+        × (r ≤ length (now (out .entry)) → Puts (now (out .entry)) 0 (records (farewellOf (domain-of l links (now («user_ids» .entry)) (now («user_links» .entry)) (now («channel_ids» .entry)) (now («channel_kinds» .entry))
+        (now (managers .entry)) (now (admitted .entry)) (now (joined .entry)) (now («token_ids» .entry)) (now («token_states» .entry)) (now («token_values» .entry)))
         gone live reason (take count (now (list .entry))))) (now (out .exit)) r))
         × (length (now (out .entry)) < r → now (out .exit) ≡ now (out .entry)) ⌝ }
 {
     // How long the columns are: so many records at most.
-    let n = ids[..].len();
-    let m = keys[..].len();
+    let n = channel_ids[..].len();
+    let m = token_ids[..].len();
     let k = list[..].len();
     let room = out.len();
     let mut to = out_records::tried(room, 17200);
@@ -55,16 +55,16 @@ fn say(
     while again {
         total = serve_leave_records::farewell(
             &mut out[..to],
-            names,
-            homes,
-            ids,
-            roles,
-            chairs,
-            guests,
-            marks,
-            keys,
-            modes,
-            values,
+            user_ids,
+            user_links,
+            channel_ids,
+            channel_kinds,
+            managers,
+            admitted,
+            joined,
+            token_ids,
+            token_states,
+            token_values,
             gone,
             live,
             reason,
@@ -80,16 +80,16 @@ fn say(
 // Those listed leave, and the connections `live` remain: the records, where there is room for them; then the tables.
 fn leave(
     links: &mut u16,
-    names: &mut [u16; 64],
-    homes: &mut [u8; 64],
-    ids: &mut [u16; 128],
-    roles: &mut [u8; 128],
-    chairs: &mut [u8; 128],
-    guests: &mut [u64; 128],
-    marks: &mut [u16; 128],
-    keys: &mut [u16; 64],
-    modes: &mut [u8; 64],
-    values: &mut [u64; 64],
+    user_ids: &mut [u16; 64],
+    user_links: &mut [u8; 64],
+    channel_ids: &mut [u16; 128],
+    channel_kinds: &mut [u8; 128],
+    managers: &mut [u8; 128],
+    admitted: &mut [u64; 128],
+    joined: &mut [u16; 128],
+    token_ids: &mut [u16; 64],
+    token_states: &mut [u8; 64],
+    token_values: &mut [u64; 64],
     live: u16,
     reason: u8,
     list: &[u16; 64],
@@ -98,31 +98,31 @@ fn leave(
 ) -> Answer
     requires { ⌜ who .count ≤ 64 ⌝ }
     ensures { λ r. ⌜ ((l : Limits) (p : ℕ) (us : List ℕ)
-        → Leaves (users-of (now (names .entry)) (now (homes .entry))) (those-on (users-of (now (names .entry)) (now (homes .entry))) p us) (now (list .entry)) who
-        → answered r (domain-of l (now (links .exit)) (now (names .exit)) (now (homes .exit)) (now (ids .exit)) (now (roles .exit))
-        (now (chairs .exit)) (now (guests .exit)) (now (marks .exit)) (now (keys .exit)) (now (modes .exit)) (now (values .exit))) (now (out .exit))
-        ≡ settle (domain-of l (now (links .entry)) (now (names .entry)) (now (homes .entry)) (now (ids .entry)) (now (roles .entry))
-        (now (chairs .entry)) (now (guests .entry)) (now (marks .entry)) (now (keys .entry)) (now (modes .entry)) (now (values .entry)))
-        (leaveOf (domain-of l (now (links .entry)) (now (names .entry)) (now (homes .entry)) (now (ids .entry)) (now (roles .entry))
-        (now (chairs .entry)) (now (guests .entry)) (now (marks .entry)) (now (keys .entry)) (now (modes .entry)) (now (values .entry)))
-        live reason (those-on (users-of (now (names .entry)) (now (homes .entry))) p us)) (now (out .entry))) ⌝ }
+        → Leaves (users-of (now («user_ids» .entry)) (now («user_links» .entry))) (those-on (users-of (now («user_ids» .entry)) (now («user_links» .entry))) p us) (now (list .entry)) who
+        → answered r (domain-of l (now (links .exit)) (now («user_ids» .exit)) (now («user_links» .exit)) (now («channel_ids» .exit)) (now («channel_kinds» .exit))
+        (now (managers .exit)) (now (admitted .exit)) (now (joined .exit)) (now («token_ids» .exit)) (now («token_states» .exit)) (now («token_values» .exit))) (now (out .exit))
+        ≡ settle (domain-of l (now (links .entry)) (now («user_ids» .entry)) (now («user_links» .entry)) (now («channel_ids» .entry)) (now («channel_kinds» .entry))
+        (now (managers .entry)) (now (admitted .entry)) (now (joined .entry)) (now («token_ids» .entry)) (now («token_states» .entry)) (now («token_values» .entry)))
+        (leaveOf (domain-of l (now (links .entry)) (now («user_ids» .entry)) (now («user_links» .entry)) (now («channel_ids» .entry)) (now («channel_kinds» .entry))
+        (now (managers .entry)) (now (admitted .entry)) (now (joined .entry)) (now («token_ids» .entry)) (now («token_states» .entry)) (now («token_values» .entry)))
+        live reason (those-on (users-of (now («user_ids» .entry)) (now («user_links» .entry))) p us)) (now (out .entry))) ⌝ }
 {
     // How long the column is: a place for each user.
-    let n = names[..].len();
+    let n = user_ids[..].len();
     let count = who.count;
     let gone = who.seats;
     let total = say(
         out,
-        names,
-        homes,
-        ids,
-        roles,
-        chairs,
-        guests,
-        marks,
-        keys,
-        modes,
-        values,
+        user_ids,
+        user_links,
+        channel_ids,
+        channel_kinds,
+        managers,
+        admitted,
+        joined,
+        token_ids,
+        token_states,
+        token_values,
         gone,
         live,
         reason,
@@ -137,19 +137,19 @@ fn leave(
     }
     let all = &list[..];
     serve_leave_tables::channels::leave(
-        names,
-        homes,
-        ids,
-        roles,
-        chairs,
-        guests,
-        marks,
+        user_ids,
+        user_links,
+        channel_ids,
+        channel_kinds,
+        managers,
+        admitted,
+        joined,
         &all[..count],
         gone,
         live,
     );
-    serve_leave_tables::users::leave(names, homes, gone);
-    serve_leave_tables::tokens::leave(keys, modes, values, gone);
+    serve_leave_tables::users::leave(user_ids, user_links, gone);
+    serve_leave_tables::tokens::leave(token_ids, token_states, token_values, gone);
     *links = live;
     Answer {
         reply: Reply::Done,
@@ -159,20 +159,20 @@ fn leave(
 
 // Who leaves: all users of p where it closes, else those listed that are its users.
 fn who_leaves(
-    names: &[u16; 64],
-    homes: &[u8; 64],
+    user_ids: &[u16; 64],
+    user_links: &[u8; 64],
     closes: bool,
     p: u8,
     list: &mut [u16; 64],
     count: usize,
 ) -> Leavers
-    ensures { λ r. ⌜ Leaves (users-of (now (names .entry)) (now (homes .entry))) (those-on (users-of (now (names .entry)) (now (homes .entry))) p
-        (if closes then inOrder (now (names .entry)) else once (take count (now (list .entry))))) (now (list .exit)) r ⌝ }
+    ensures { λ r. ⌜ Leaves (users-of (now («user_ids» .entry)) (now («user_links» .entry))) (those-on (users-of (now («user_ids» .entry)) (now («user_links» .entry))) p
+        (if closes then inOrder (now («user_ids» .entry)) else once (take count (now (list .entry))))) (now (list .exit)) r ⌝ }
 {
     if closes {
-        return all_on(names, homes, p, list);
+        return all_on(user_ids, user_links, p, list);
     }
-    listed_on(names, homes, p, list, count)
+    listed_on(user_ids, user_links, p, list, count)
 }
 
 // The connections that remain.
@@ -199,16 +199,16 @@ fn told(closes: bool, reason: u8) -> u8
 // list lent is worked in.
 pub fn depart(
     links: &mut u16,
-    names: &mut [u16; 64],
-    homes: &mut [u8; 64],
-    ids: &mut [u16; 128],
-    roles: &mut [u8; 128],
-    chairs: &mut [u8; 128],
-    guests: &mut [u64; 128],
-    marks: &mut [u16; 128],
-    keys: &mut [u16; 64],
-    modes: &mut [u8; 64],
-    values: &mut [u64; 64],
+    user_ids: &mut [u16; 64],
+    user_links: &mut [u8; 64],
+    channel_ids: &mut [u16; 128],
+    channel_kinds: &mut [u8; 128],
+    managers: &mut [u8; 128],
+    admitted: &mut [u64; 128],
+    joined: &mut [u16; 128],
+    token_ids: &mut [u16; 64],
+    token_states: &mut [u8; 64],
+    token_values: &mut [u64; 64],
     closes: bool,
     p: u8,
     reason: u8,
@@ -216,15 +216,15 @@ pub fn depart(
     count: usize,
     out: &mut [u8],
 ) -> Answer
-    ensures { λ r. ⌜ ((l : Limits) → answered r (domain-of l (now (links .exit)) (now (names .exit)) (now (homes .exit)) (now (ids .exit)) (now (roles .exit))
-        (now (chairs .exit)) (now (guests .exit)) (now (marks .exit)) (now (keys .exit)) (now (modes .exit)) (now (values .exit))) (now (out .exit))
-        ≡ settle (domain-of l (now (links .entry)) (now (names .entry)) (now (homes .entry)) (now (ids .entry)) (now (roles .entry))
-        (now (chairs .entry)) (now (guests .entry)) (now (marks .entry)) (now (keys .entry)) (now (modes .entry)) (now (values .entry)))
-        (if closes then closeOf (domain-of l (now (links .entry)) (now (names .entry)) (now (homes .entry)) (now (ids .entry)) (now (roles .entry))
-        (now (chairs .entry)) (now (guests .entry)) (now (marks .entry)) (now (keys .entry)) (now (modes .entry)) (now (values .entry))) p else detachOf (domain-of l (now (links .entry)) (now (names .entry)) (now (homes .entry)) (now (ids .entry)) (now (roles .entry))
-        (now (chairs .entry)) (now (guests .entry)) (now (marks .entry)) (now (keys .entry)) (now (modes .entry)) (now (values .entry))) p (reason % 8) (take count (now (list .entry)))) (now (out .entry))) ⌝ }
+    ensures { λ r. ⌜ ((l : Limits) → answered r (domain-of l (now (links .exit)) (now («user_ids» .exit)) (now («user_links» .exit)) (now («channel_ids» .exit)) (now («channel_kinds» .exit))
+        (now (managers .exit)) (now (admitted .exit)) (now (joined .exit)) (now («token_ids» .exit)) (now («token_states» .exit)) (now («token_values» .exit))) (now (out .exit))
+        ≡ settle (domain-of l (now (links .entry)) (now («user_ids» .entry)) (now («user_links» .entry)) (now («channel_ids» .entry)) (now («channel_kinds» .entry))
+        (now (managers .entry)) (now (admitted .entry)) (now (joined .entry)) (now («token_ids» .entry)) (now («token_states» .entry)) (now («token_values» .entry)))
+        (if closes then closeOf (domain-of l (now (links .entry)) (now («user_ids» .entry)) (now («user_links» .entry)) (now («channel_ids» .entry)) (now («channel_kinds» .entry))
+        (now (managers .entry)) (now (admitted .entry)) (now (joined .entry)) (now («token_ids» .entry)) (now («token_states» .entry)) (now («token_values» .entry))) p else detachOf (domain-of l (now (links .entry)) (now («user_ids» .entry)) (now («user_links» .entry)) (now («channel_ids» .entry)) (now («channel_kinds» .entry))
+        (now (managers .entry)) (now (admitted .entry)) (now (joined .entry)) (now («token_ids» .entry)) (now («token_states» .entry)) (now («token_values» .entry))) p (reason % 8) (take count (now (list .entry)))) (now (out .entry))) ⌝ }
 {
-    let who = who_leaves(names, homes, closes, p, list, count);
+    let who = who_leaves(user_ids, user_links, closes, p, list, count);
     if (who.count == 0) & !closes {
         return Answer {
             reply: Reply::Ignored,
@@ -235,16 +235,16 @@ pub fn depart(
     let why = told(closes, reason);
     leave(
         links,
-        names,
-        homes,
-        ids,
-        roles,
-        chairs,
-        guests,
-        marks,
-        keys,
-        modes,
-        values,
+        user_ids,
+        user_links,
+        channel_ids,
+        channel_kinds,
+        managers,
+        admitted,
+        joined,
+        token_ids,
+        token_states,
+        token_values,
         live,
         why,
         list,
@@ -263,20 +263,20 @@ pub struct Leavers {
 
 // User u behind those listed, where u is attached on p and not one of them: its place is not yet among theirs.
 fn add_leaver(
-    names: &[u16; 64],
-    homes: &[u8; 64],
+    user_ids: &[u16; 64],
+    user_links: &[u8; 64],
     p: u8,
     u: u16,
     list: &mut [u16; 64],
     t: Leavers,
 ) -> Leavers
     requires { ⌜ t .count < 64 ⌝ }
-    ensures { λ r. ⌜ Adds (users-of (now (names .entry)) (now (homes .entry))) p u (now (list .entry)) t (now (list .exit)) r ⌝ }
+    ensures { λ r. ⌜ Adds (users-of (now («user_ids» .entry)) (now («user_links» .entry))) p u (now (list .entry)) t (now (list .exit)) r ⌝ }
 {
     // How long the columns are: a place below is found, and there is room for one id more.
-    let all = names[..].len();
+    let all = user_ids[..].len();
     let room = list[..].len();
-    let j = domain_tables::users::attached(names, homes, p, u);
+    let j = domain_tables::users::attached(user_ids, user_links, p, u);
     if j < all {
         let seat = j as u8;
         if !cols_masks::has(t.seats, seat) {
@@ -293,42 +293,42 @@ fn add_leaver(
 
 // Of the first `count` listed ids those attached on p, each once, in list order. They are kept in the list itself.
 pub fn listed_on(
-    names: &[u16; 64],
-    homes: &[u8; 64],
+    user_ids: &[u16; 64],
+    user_links: &[u8; 64],
     p: u8,
     list: &mut [u16; 64],
     count: usize,
 ) -> Leavers
-    ensures { λ r. ⌜ Leaves (users-of (now (names .entry)) (now (homes .entry)))
-        (those-on (users-of (now (names .entry)) (now (homes .entry))) p (once (take count (now (list .entry))))) (now (list .exit)) r ⌝ }
+    ensures { λ r. ⌜ Leaves (users-of (now («user_ids» .entry)) (now («user_links» .entry)))
+        (those-on (users-of (now («user_ids» .entry)) (now («user_links» .entry))) p (once (take count (now (list .entry))))) (now (list .exit)) r ⌝ }
 {
     let m = cols_walk::at_most(count, list[..].len());
     let mut t = Leavers { count: 0, seats: 0 };
     let mut i = 0;
     while i < m {
         let u = list[i];
-        t = add_leaver(names, homes, p, u, list, t);
+        t = add_leaver(user_ids, user_links, p, u, list, t);
         i += 1;
     }
     t
 }
 
 // The users on p, ascending.
-pub fn all_on(names: &[u16; 64], homes: &[u8; 64], p: u8, list: &mut [u16; 64]) -> Leavers
-    ensures { λ r. ⌜ Leaves (users-of (now (names .entry)) (now (homes .entry)))
-        (those-on (users-of (now (names .entry)) (now (homes .entry))) p (inOrder (now (names .entry)))) (now (list .exit)) r ⌝ }
+pub fn all_on(user_ids: &[u16; 64], user_links: &[u8; 64], p: u8, list: &mut [u16; 64]) -> Leavers
+    ensures { λ r. ⌜ Leaves (users-of (now («user_ids» .entry)) (now («user_links» .entry)))
+        (those-on (users-of (now («user_ids» .entry)) (now («user_links» .entry))) p (inOrder (now («user_ids» .entry)))) (now (list .exit)) r ⌝ }
 {
     // How long the columns are: each user has a connection.
-    let all = homes[..].len();
+    let all = user_links[..].len();
     let mut t = Leavers { count: 0, seats: 0 };
     let mut low: u16 = 0;
-    let mut left = names[..].len();
+    let mut left = user_ids[..].len();
     while 0 < left {
-        let u = cols_walk::next_where(names, homes, p, low);
+        let u = cols_walk::next_where(user_ids, user_links, p, low);
         if u == 0 {
             return t;
         }
-        t = add_leaver(names, homes, p, u, list, t);
+        t = add_leaver(user_ids, user_links, p, u, list, t);
         low = u;
         left -= 1;
     }

@@ -44,24 +44,24 @@ fn put_first(out: &mut [u8], live: u16, reason: u8, list: &[u16; 64], count: usi
 
 // The kind of channel c.
 fn kind_of(
-    ids: &[u16; 128],
-    roles: &[u8; 128],
-    chairs: &[u8; 128],
-    guests: &[u64; 128],
-    marks: &[u16; 128],
+    channel_ids: &[u16; 128],
+    channel_kinds: &[u8; 128],
+    managers: &[u8; 128],
+    admitted: &[u64; 128],
+    joined: &[u16; 128],
     c: u16,
 ) -> Kind
-    ensures { λ r. ⌜ r ≡ kind-at (channels-of (now (ids .entry)) (now (roles .entry)) (now (chairs .entry)) (now (guests .entry)) (now (marks .entry))) c ⌝ }
+    ensures { λ r. ⌜ r ≡ kind-at (channels-of (now («channel_ids» .entry)) (now («channel_kinds» .entry)) (now (managers .entry)) (now (admitted .entry)) (now (joined .entry))) c ⌝ }
 {
     // How long the columns are: behind the last place a channel is blank.
-    let n = ids[..].len();
-    let m = roles[..].len();
-    let j = cols_find::find(ids, c);
+    let n = channel_ids[..].len();
+    let m = channel_kinds[..].len();
+    let j = cols_find::find(channel_ids, c);
     domain_state::channel::kind_of(domain_tables::channels::channel_at(
-        roles,
-        chairs,
-        guests,
-        marks,
+        channel_kinds,
+        managers,
+        admitted,
+        joined,
         j,
     ))
 }
@@ -70,22 +70,22 @@ fn kind_of(
 fn put_ended(
     out: &mut [u8],
     at: usize,
-    names: &[u16; 64],
-    homes: &[u8; 64],
+    user_ids: &[u16; 64],
+    user_links: &[u8; 64],
     gone: u64,
     live: u16,
     c: u16,
     k: Kind,
 ) -> usize
     requires { ⌜ at ≤ 65535 ⌝ }
-    ensures { λ r. ⌜ Puts (now (out .entry)) at (recordsOf (ended (users-of (now (names .entry)) (now (homes .entry))) gone live c k)) (now (out .exit)) r ⌝ }
+    ensures { λ r. ⌜ Puts (now (out .entry)) at (recordsOf (ended (users-of (now («user_ids» .entry)) (now («user_links» .entry))) gone live c k)) (now (out .exit)) r ⌝ }
 {
     match k {
         Kind::Private(g, guests) => {
             if cols_masks::has(gone, g) {
                 let held = domain_tables::users::hosts(
-                    names,
-                    homes,
+                    user_ids,
+                    user_links,
                     cols_masks::with_seat(guests, g),
                 );
                 let told = cols_masks::common_links(held, live);
@@ -134,20 +134,28 @@ fn with_end(e: Ending, c: u16) -> Ending
 }
 
 // The channels that end. Only a private channel, role 3, can end.
-fn find_ends(ids: &[u16; 128], roles: &[u8; 128], chairs: &[u8; 128], gone: u64) -> Ending
-    ensures { λ r. ⌜ Marks (picked (ends-there gone (now (roles .entry)) (now (chairs .entry))) 0 (now (ids .entry))) r ⌝ }
+fn find_ends(
+    channel_ids: &[u16; 128],
+    channel_kinds: &[u8; 128],
+    managers: &[u8; 128],
+    gone: u64,
+) -> Ending
+    ensures { λ r. ⌜ Marks (picked (ends-there gone (now («channel_kinds» .entry)) (now (managers .entry))) 0 (now («channel_ids» .entry))) r ⌝ }
 {
     // How long the column is: a role for each id.
-    let all = ids[..].len();
+    let all = channel_ids[..].len();
     let mut e = Ending {
         low: 0,
         high: 0,
         beyond: false,
     };
-    let mut j = cols_walk::cell_from(roles, 0, 3);
+    let mut j = cols_walk::cell_from(channel_kinds, 0, 3);
     while j < 128 {
-        e = with_end(e, if_ends(ends(roles[j], chairs[j], gone), ids[j]));
-        j = cols_walk::cell_from(roles, j + 1, 3);
+        e = with_end(
+            e,
+            if_ends(ends(channel_kinds[j], managers[j], gone), channel_ids[j]),
+        );
+        j = cols_walk::cell_from(channel_kinds, j + 1, 3);
     }
     e
 }
@@ -174,11 +182,11 @@ fn above(x: u16) -> usize
 }
 
 // The least id above `low` of the channels that end, or 0: by their marks, or else of all channels.
-fn next_end(ids: &[u16; 128], e: Ending, low: u16) -> u16
-    ensures { λ r. ⌜ ((xs : List ℕ) → Marks xs e → r ≡ nextIn low 0 (if e .beyond then now (ids .entry) else xs)) ⌝ }
+fn next_end(channel_ids: &[u16; 128], e: Ending, low: u16) -> u16
+    ensures { λ r. ⌜ ((xs : List ℕ) → Marks xs e → r ≡ nextIn low 0 (if e .beyond then now («channel_ids» .entry) else xs)) ⌝ }
 {
     if e.beyond {
-        return cols_walk::next(ids, low);
+        return cols_walk::next(channel_ids, low);
     }
     let q = next_mark(e.low, e.high, above(low));
     if q < 128 { 1001 + q as u16 } else { 0 }
@@ -188,32 +196,32 @@ fn next_end(ids: &[u16; 128], e: Ending, low: u16) -> u16
 fn put_ends(
     out: &mut [u8],
     from: usize,
-    names: &[u16; 64],
-    homes: &[u8; 64],
-    ids: &[u16; 128],
-    roles: &[u8; 128],
-    chairs: &[u8; 128],
-    guests: &[u64; 128],
-    marks: &[u16; 128],
+    user_ids: &[u16; 64],
+    user_links: &[u8; 64],
+    channel_ids: &[u16; 128],
+    channel_kinds: &[u8; 128],
+    managers: &[u8; 128],
+    admitted: &[u64; 128],
+    joined: &[u16; 128],
     gone: u64,
     live: u16,
 ) -> usize
     requires { ⌜ from ≤ 4096 ⌝ }
-    ensures { λ r. ⌜ (Puts (now (out .entry)) from (recordsOf (each (end-at (users-of (now (names .entry)) (now (homes .entry)))
-        (channels-of (now (ids .entry)) (now (roles .entry)) (now (chairs .entry)) (now (guests .entry)) (now (marks .entry))) gone live)
-        (inOrder (now (ids .entry))))) (now (out .exit)) r) × (r ≤ from + 14336) ⌝ }
+    ensures { λ r. ⌜ (Puts (now (out .entry)) from (recordsOf (each (end-at (users-of (now («user_ids» .entry)) (now («user_links» .entry)))
+        (channels-of (now («channel_ids» .entry)) (now («channel_kinds» .entry)) (now (managers .entry)) (now (admitted .entry)) (now (joined .entry))) gone live)
+        (inOrder (now («channel_ids» .entry))))) (now (out .exit)) r) × (r ≤ from + 14336) ⌝ }
 {
-    let e = find_ends(ids, roles, chairs, gone);
+    let e = find_ends(channel_ids, channel_kinds, managers, gone);
     let mut at = from;
     let mut low: u16 = 0;
-    let mut left = ids[..].len();
+    let mut left = channel_ids[..].len();
     while 0 < left {
-        let c = next_end(ids, e, low);
+        let c = next_end(channel_ids, e, low);
         if c == 0 {
             return at;
         }
-        let k = kind_of(ids, roles, chairs, guests, marks, c);
-        at = put_ended(out, at, names, homes, gone, live, c, k);
+        let k = kind_of(channel_ids, channel_kinds, managers, admitted, joined, c);
+        at = put_ended(out, at, user_ids, user_links, gone, live, c, k);
         low = c;
         left -= 1;
     }
@@ -224,32 +232,32 @@ fn put_ends(
 fn put_any_ends(
     out: &mut [u8],
     from: usize,
-    names: &[u16; 64],
-    homes: &[u8; 64],
-    ids: &[u16; 128],
-    roles: &[u8; 128],
-    chairs: &[u8; 128],
-    guests: &[u64; 128],
-    marks: &[u16; 128],
+    user_ids: &[u16; 64],
+    user_links: &[u8; 64],
+    channel_ids: &[u16; 128],
+    channel_kinds: &[u8; 128],
+    managers: &[u8; 128],
+    admitted: &[u64; 128],
+    joined: &[u16; 128],
     gone: u64,
     live: u16,
 ) -> usize
     requires { ⌜ from ≤ 4096 ⌝ }
-    ensures { λ r. ⌜ (Puts (now (out .entry)) from (recordsOf (each (end-at (users-of (now (names .entry)) (now (homes .entry)))
-        (channels-of (now (ids .entry)) (now (roles .entry)) (now (chairs .entry)) (now (guests .entry)) (now (marks .entry))) gone live)
-        (inOrder (now (ids .entry))))) (now (out .exit)) r) × (r ≤ from + 14336) ⌝ }
+    ensures { λ r. ⌜ (Puts (now (out .entry)) from (recordsOf (each (end-at (users-of (now («user_ids» .entry)) (now («user_links» .entry)))
+        (channels-of (now («channel_ids» .entry)) (now («channel_kinds» .entry)) (now (managers .entry)) (now (admitted .entry)) (now (joined .entry))) gone live)
+        (inOrder (now («channel_ids» .entry))))) (now (out .exit)) r) × (r ≤ from + 14336) ⌝ }
 {
-    if cols_walk::any_is(roles, 3) {
+    if cols_walk::any_is(channel_kinds, 3) {
         return put_ends(
             out,
             from,
-            names,
-            homes,
-            ids,
-            roles,
-            chairs,
-            guests,
-            marks,
+            user_ids,
+            user_links,
+            channel_ids,
+            channel_kinds,
+            managers,
+            admitted,
+            joined,
             gone,
             live,
         );
@@ -261,16 +269,16 @@ fn put_any_ends(
 fn put_refusal(
     out: &mut [u8],
     at: usize,
-    names: &[u16; 64],
-    homes: &[u8; 64],
+    user_ids: &[u16; 64],
+    user_links: &[u8; 64],
     gone: u64,
     k: u16,
     g: u8,
     r: u8,
 ) -> usize
     requires { ⌜ at ≤ 65535 ⌝ }
-    ensures { λ n. ⌜ Puts (now (out .entry)) at (recordsOf (to (link (users-of (now (names .entry)) (now (homes .entry))) g)
-        (TVcf no-such-user (name (users-of (now (names .entry)) (now (homes .entry))) g) k (statusOf (loseOf gone (Giving g r)) g)) ∷ [])) (now (out .exit)) n ⌝ }
+    ensures { λ n. ⌜ Puts (now (out .entry)) at (recordsOf (to (link (users-of (now («user_ids» .entry)) (now («user_links» .entry))) g)
+        (TVcf no-such-user (name (users-of (now («user_ids» .entry)) (now («user_links» .entry))) g) k (statusOf (loseOf gone (Giving g r)) g)) ∷ [])) (now (out .exit)) n ⌝ }
 {
     let h = domain_state::token::lose(gone, Holding::Giving(g, r));
     let s = domain_state::numbers::status_number(domain_state::token::status(h, g));
@@ -278,25 +286,25 @@ fn put_refusal(
     let m = out_messages::token_confirm(
         Confirm::Give,
         n,
-        domain_tables::users::name_at(names, g),
+        domain_tables::users::name_at(user_ids, g),
         k,
         s,
     );
-    out_records::send(out, at, domain_tables::users::link_at(homes, g), &m)
+    out_records::send(out, at, domain_tables::users::link_at(user_links, g), &m)
 }
 
 // The same where the recipient leaves and the giver stays.
 fn put_returned(
     out: &mut [u8],
     at: usize,
-    names: &[u16; 64],
-    homes: &[u8; 64],
+    user_ids: &[u16; 64],
+    user_links: &[u8; 64],
     gone: u64,
     k: u16,
     h: Holding,
 ) -> usize
     requires { ⌜ at ≤ 65535 ⌝ }
-    ensures { λ r. ⌜ Puts (now (out .entry)) at (recordsOf (returned (users-of (now (names .entry)) (now (homes .entry))) gone k h)) (now (out .exit)) r ⌝ }
+    ensures { λ r. ⌜ Puts (now (out .entry)) at (recordsOf (returned (users-of (now («user_ids» .entry)) (now («user_links» .entry))) gone k h)) (now (out .exit)) r ⌝ }
 {
     match h {
         Holding::Giving(g, r) => {
@@ -304,7 +312,7 @@ fn put_returned(
                 if cols_masks::has(gone, g) {
                     return at;
                 }
-                return put_refusal(out, at, names, homes, gone, k, g, r);
+                return put_refusal(out, at, user_ids, user_links, gone, k, g, r);
             }
             at
         }
@@ -319,27 +327,27 @@ fn put_returned(
 fn put_returns(
     out: &mut [u8],
     from: usize,
-    names: &[u16; 64],
-    homes: &[u8; 64],
-    keys: &[u16; 64],
-    modes: &[u8; 64],
-    values: &[u64; 64],
+    user_ids: &[u16; 64],
+    user_links: &[u8; 64],
+    token_ids: &[u16; 64],
+    token_states: &[u8; 64],
+    token_values: &[u64; 64],
     gone: u64,
 ) -> usize
     requires { ⌜ from ≤ 32768 ⌝ }
-    ensures { λ r. ⌜ Puts (now (out .entry)) from (recordsOf (each (return-at (users-of (now (names .entry)) (now (homes .entry)))
-        (tokens-of (now (keys .entry)) (now (modes .entry)) (now (values .entry))) gone) (inOrder (now (keys .entry))))) (now (out .exit)) r ⌝ }
+    ensures { λ r. ⌜ Puts (now (out .entry)) from (recordsOf (each (return-at (users-of (now («user_ids» .entry)) (now («user_links» .entry)))
+        (tokens-of (now («token_ids» .entry)) (now («token_states» .entry)) (now («token_values» .entry))) gone) (inOrder (now («token_ids» .entry))))) (now (out .exit)) r ⌝ }
 {
     let mut at = from;
     let mut low: u16 = 0;
-    let mut left = keys[..].len();
+    let mut left = token_ids[..].len();
     while 0 < left {
-        let k = cols_walk::next_where(keys, modes, 3, low);
+        let k = cols_walk::next_where(token_ids, token_states, 3, low);
         if k == 0 {
             return at;
         }
-        let h = domain_tables::tokens::state(keys, modes, values, k);
-        at = put_returned(out, at, names, homes, gone, k, h);
+        let h = domain_tables::tokens::state(token_ids, token_states, token_values, k);
+        at = put_returned(out, at, user_ids, user_links, gone, k, h);
         low = k;
         left -= 1;
     }
@@ -350,19 +358,28 @@ fn put_returns(
 fn put_any_returns(
     out: &mut [u8],
     from: usize,
-    names: &[u16; 64],
-    homes: &[u8; 64],
-    keys: &[u16; 64],
-    modes: &[u8; 64],
-    values: &[u64; 64],
+    user_ids: &[u16; 64],
+    user_links: &[u8; 64],
+    token_ids: &[u16; 64],
+    token_states: &[u8; 64],
+    token_values: &[u64; 64],
     gone: u64,
 ) -> usize
     requires { ⌜ from ≤ 32768 ⌝ }
-    ensures { λ r. ⌜ Puts (now (out .entry)) from (recordsOf (each (return-at (users-of (now (names .entry)) (now (homes .entry)))
-        (tokens-of (now (keys .entry)) (now (modes .entry)) (now (values .entry))) gone) (inOrder (now (keys .entry))))) (now (out .exit)) r ⌝ }
+    ensures { λ r. ⌜ Puts (now (out .entry)) from (recordsOf (each (return-at (users-of (now («user_ids» .entry)) (now («user_links» .entry)))
+        (tokens-of (now («token_ids» .entry)) (now («token_states» .entry)) (now («token_values» .entry))) gone) (inOrder (now («token_ids» .entry))))) (now (out .exit)) r ⌝ }
 {
-    if cols_walk::any_is(modes, 3) {
-        return put_returns(out, from, names, homes, keys, modes, values, gone);
+    if cols_walk::any_is(token_states, 3) {
+        return put_returns(
+            out,
+            from,
+            user_ids,
+            user_links,
+            token_ids,
+            token_states,
+            token_values,
+            gone,
+        );
     }
     from
 }
@@ -370,39 +387,48 @@ fn put_any_returns(
 // The users at the places `gone` leave and the connections `live` remain: DUin with the first `count` of the ids, then CDin, then TVcf.
 pub fn farewell(
     out: &mut [u8],
-    names: &[u16; 64],
-    homes: &[u8; 64],
-    ids: &[u16; 128],
-    roles: &[u8; 128],
-    chairs: &[u8; 128],
-    guests: &[u64; 128],
-    marks: &[u16; 128],
-    keys: &[u16; 64],
-    modes: &[u8; 64],
-    values: &[u64; 64],
+    user_ids: &[u16; 64],
+    user_links: &[u8; 64],
+    channel_ids: &[u16; 128],
+    channel_kinds: &[u8; 128],
+    managers: &[u8; 128],
+    admitted: &[u64; 128],
+    joined: &[u16; 128],
+    token_ids: &[u16; 64],
+    token_states: &[u8; 64],
+    token_values: &[u64; 64],
     gone: u64,
     live: u16,
     reason: u8,
     list: &[u16; 64],
     count: usize,
 ) -> usize
-    ensures { λ r. ⌜ ((l : Limits) → (links : ℕ) → Puts (now (out .entry)) 0 (recordsOf (farewellOf (domain-of l links (now (names .entry)) (now (homes .entry))
-        (now (ids .entry)) (now (roles .entry)) (now (chairs .entry)) (now (guests .entry)) (now (marks .entry))
-        (now (keys .entry)) (now (modes .entry)) (now (values .entry))) gone live reason (take count (now (list .entry))))) (now (out .exit)) r) ⌝ }
+    ensures { λ r. ⌜ ((l : Limits) → (links : ℕ) → Puts (now (out .entry)) 0 (recordsOf (farewellOf (domain-of l links (now («user_ids» .entry)) (now («user_links» .entry))
+        (now («channel_ids» .entry)) (now («channel_kinds» .entry)) (now (managers .entry)) (now (admitted .entry)) (now (joined .entry))
+        (now («token_ids» .entry)) (now («token_states» .entry)) (now («token_values» .entry))) gone live reason (take count (now (list .entry))))) (now (out .exit)) r) ⌝ }
 {
     let a = put_first(out, live, reason, list, count);
     let b = put_any_ends(
         out,
         a,
-        names,
-        homes,
-        ids,
-        roles,
-        chairs,
-        guests,
-        marks,
+        user_ids,
+        user_links,
+        channel_ids,
+        channel_kinds,
+        managers,
+        admitted,
+        joined,
         gone,
         live,
     );
-    put_any_returns(out, b, names, homes, keys, modes, values, gone)
+    put_any_returns(
+        out,
+        b,
+        user_ids,
+        user_links,
+        token_ids,
+        token_states,
+        token_values,
+        gone,
+    )
 }

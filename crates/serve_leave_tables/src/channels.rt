@@ -34,53 +34,53 @@ fn ends(role: u8, chair: u8, listed: bool, gone: u64, m: u16) -> bool
 }
 
 // The connections of a channel that stays: a private one's only with the manager or an admitted user. Where none is joined none is sought.
-fn links_left(names: &[u16; 64], homes: &[u8; 64], chair: u8, guests: u64, m: u16) -> u16
-    ensures { λ r. ⌜ r ≡ meet links m (hosts (users-of (now (names .entry)) (now (homes .entry))) (with seats guests chair)) ⌝ }
+fn links_left(user_ids: &[u16; 64], user_links: &[u8; 64], chair: u8, guests: u64, m: u16) -> u16
+    ensures { λ r. ⌜ r ≡ meet links m (hosts (users-of (now («user_ids» .entry)) (now («user_links» .entry))) (with seats guests chair)) ⌝ }
 {
     if m == 0 {
         return 0;
     }
     cols_masks::common_links(
         m,
-        domain_tables::users::hosts(names, homes, cols_masks::with_seat(guests, chair)),
+        domain_tables::users::hosts(user_ids, user_links, cols_masks::with_seat(guests, chair)),
     )
 }
 
 // The channel at place j stays: its connections, and of a private one the admitted.
 fn stay(
-    names: &[u16; 64],
-    homes: &[u8; 64],
+    user_ids: &[u16; 64],
+    user_links: &[u8; 64],
     role: u8,
-    chairs: &[u8; 128],
-    guests: &mut [u64; 128],
-    marks: &mut [u16; 128],
+    managers: &[u8; 128],
+    admitted: &mut [u64; 128],
+    joined: &mut [u16; 128],
     gone: u64,
     m: u16,
     j: usize,
 )
     requires { ⌜ j < 128 ⌝ }
-    ensures { λ _. ⌜ (now (guests .exit) ≡ set (now (guests .entry)) j (guests-left role (getD (now (guests .entry)) j 0) gone))
-        × (now (marks .exit) ≡ set (now (marks .entry)) j
-        (marks-left (users-of (now (names .entry)) (now (homes .entry))) role (getD (now (chairs .entry)) j 0) (guests-left role (getD (now (guests .entry)) j 0) gone) m)) ⌝ }
+    ensures { λ _. ⌜ (now (admitted .exit) ≡ set (now (admitted .entry)) j (guests-left role (getD (now (admitted .entry)) j 0) gone))
+        × (now (joined .exit) ≡ set (now (joined .entry)) j
+        (marks-left (users-of (now («user_ids» .entry)) (now («user_links» .entry))) role (getD (now (managers .entry)) j 0) (guests-left role (getD (now (admitted .entry)) j 0) gone) m)) ⌝ }
 {
     if role == 3 {
-        let let_in = cols_masks::other_seats(guests[j], gone);
-        guests[j] = let_in;
-        marks[j] = links_left(names, homes, chairs[j], let_in, m);
+        let let_in = cols_masks::other_seats(admitted[j], gone);
+        admitted[j] = let_in;
+        joined[j] = links_left(user_ids, user_links, managers[j], let_in, m);
         return;
     }
-    marks[j] = m;
+    joined[j] = m;
 }
 
 // What becomes of the channel at place j.
 fn leave_place(
-    names: &[u16; 64],
-    homes: &[u8; 64],
-    ids: &mut [u16; 128],
-    roles: &mut [u8; 128],
-    chairs: &mut [u8; 128],
-    guests: &mut [u64; 128],
-    marks: &mut [u16; 128],
+    user_ids: &[u16; 64],
+    user_links: &[u8; 64],
+    channel_ids: &mut [u16; 128],
+    channel_kinds: &mut [u8; 128],
+    managers: &mut [u8; 128],
+    admitted: &mut [u64; 128],
+    joined: &mut [u16; 128],
     list: &[u16],
     low: u64,
     gone: u64,
@@ -88,68 +88,85 @@ fn leave_place(
     j: usize,
 )
     requires { ⌜ (j < 128) × (low ≡ marked 1000 (now list)) ⌝ }
-    ensures { λ _. ⌜ Turns no-channel (anywhere (fate-by (users-of (now (names .entry)) (now (homes .entry))) (now (list .entry)) gone live)) j
-        (now (ids .entry)) (channel-cells (now (roles .entry)) (now (chairs .entry)) (now (guests .entry)) (now (marks .entry)))
-        (now (ids .exit)) (channel-cells (now (roles .exit)) (now (chairs .exit)) (now (guests .exit)) (now (marks .exit))) ⌝ }
+    ensures { λ _. ⌜ Turns no-channel (anywhere (fate-by (users-of (now («user_ids» .entry)) (now («user_links» .entry))) (now (list .entry)) gone live)) j
+        (now («channel_ids» .entry)) (channel-cells (now («channel_kinds» .entry)) (now (managers .entry)) (now (admitted .entry)) (now (joined .entry)))
+        (now («channel_ids» .exit)) (channel-cells (now («channel_kinds» .exit)) (now (managers .exit)) (now (admitted .exit)) (now (joined .exit))) ⌝ }
 {
     // How long the columns are: a cell is read where all are long enough.
-    let n1 = roles[..].len();
-    let n2 = chairs[..].len();
-    let n3 = guests[..].len();
-    let n4 = marks[..].len();
-    let c = ids[j];
+    let n1 = channel_kinds[..].len();
+    let n2 = managers[..].len();
+    let n3 = admitted[..].len();
+    let n4 = joined[..].len();
+    let c = channel_ids[j];
     if c == 0 {
         return;
     }
-    let role = roles[j];
-    let m = cols_masks::common_links(marks[j], live);
-    if ends(role, chairs[j], is_listed(low, list, role, c), gone, m) {
-        domain_tables::channels::end_channel(ids, roles, chairs, guests, marks, j);
+    let role = channel_kinds[j];
+    let m = cols_masks::common_links(joined[j], live);
+    if ends(role, managers[j], is_listed(low, list, role, c), gone, m) {
+        domain_tables::channels::end_channel(
+            channel_ids,
+            channel_kinds,
+            managers,
+            admitted,
+            joined,
+            j,
+        );
         return;
     }
-    stay(names, homes, role, chairs, guests, marks, gone, m, j);
+    stay(
+        user_ids,
+        user_links,
+        role,
+        managers,
+        admitted,
+        joined,
+        gone,
+        m,
+        j,
+    );
 }
 
 // The users listed leave, `gone` are places, and the connections `live` remain.
 pub fn leave(
-    names: &[u16; 64],
-    homes: &[u8; 64],
-    ids: &mut [u16; 128],
-    roles: &mut [u8; 128],
-    chairs: &mut [u8; 128],
-    guests: &mut [u64; 128],
-    marks: &mut [u16; 128],
+    user_ids: &[u16; 64],
+    user_links: &[u8; 64],
+    channel_ids: &mut [u16; 128],
+    channel_kinds: &mut [u8; 128],
+    managers: &mut [u8; 128],
+    admitted: &mut [u64; 128],
+    joined: &mut [u16; 128],
     list: &[u16],
     gone: u64,
     live: u16,
 )
-    ensures { λ _. ⌜ channels-of (now (ids .exit)) (now (roles .exit)) (now (chairs .exit)) (now (guests .exit)) (now (marks .exit))
-        ≡ sweep-channels (fate-by (users-of (now (names .entry)) (now (homes .entry))) (now (list .entry)) gone live)
-        (channels-of (now (ids .entry)) (now (roles .entry)) (now (chairs .entry)) (now (guests .entry)) (now (marks .entry))) ⌝ }
+    ensures { λ _. ⌜ channels-of (now («channel_ids» .exit)) (now («channel_kinds» .exit)) (now (managers .exit)) (now (admitted .exit)) (now (joined .exit))
+        ≡ sweep-channels (fate-by (users-of (now («user_ids» .entry)) (now («user_links» .entry))) (now (list .entry)) gone live)
+        (channels-of (now («channel_ids» .entry)) (now («channel_kinds» .entry)) (now (managers .entry)) (now (admitted .entry)) (now (joined .entry))) ⌝ }
 {
     let low = cols_walk::id_marks(list);
     // How long the columns are: what the loop keeps.
-    let n1 = ids[..].len();
-    let n2 = roles[..].len();
-    let n3 = chairs[..].len();
-    let n4 = guests[..].len();
-    let n5 = marks[..].len();
-    let mut j = cols_walk::used_from(ids, 0);
+    let n1 = channel_ids[..].len();
+    let n2 = channel_kinds[..].len();
+    let n3 = managers[..].len();
+    let n4 = admitted[..].len();
+    let n5 = joined[..].len();
+    let mut j = cols_walk::used_from(channel_ids, 0);
     while j < 128 {
         leave_place(
-            names,
-            homes,
-            ids,
-            roles,
-            chairs,
-            guests,
-            marks,
+            user_ids,
+            user_links,
+            channel_ids,
+            channel_kinds,
+            managers,
+            admitted,
+            joined,
             list,
             low,
             gone,
             live,
             j,
         );
-        j = cols_walk::used_from(ids, j + 1);
+        j = cols_walk::used_from(channel_ids, j + 1);
     }
 }

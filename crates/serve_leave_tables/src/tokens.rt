@@ -10,49 +10,54 @@ use domain::token::Token;
 
 // What becomes of the token at place j; free, it has no place.
 fn leave_place(
-    keys: &mut [u16; 64],
-    modes: &mut [u8; 64],
-    values: &mut [u64; 64],
+    token_ids: &mut [u16; 64],
+    token_states: &mut [u8; 64],
+    token_values: &mut [u64; 64],
     gone: u64,
     j: usize,
 )
     requires { ⌜ j < 64 ⌝ }
-    ensures { λ _. ⌜ Turns no-token (loses gone) j (now (keys .entry)) (token-cells (now (modes .entry)) (now (values .entry)))
-        (now (keys .exit)) (token-cells (now (modes .exit)) (now (values .exit))) ⌝ }
+    ensures { λ _. ⌜ Turns no-token (loses gone) j (now («token_ids» .entry)) (token-cells (now («token_states» .entry)) (now («token_values» .entry)))
+        (now («token_ids» .exit)) (token-cells (now («token_states» .exit)) (now («token_values» .exit))) ⌝ }
 {
     // How long the columns are: a cell is read where both are long enough.
-    let n = modes[..].len();
-    let m = values[..].len();
-    if keys[j] == 0 {
+    let n = token_states[..].len();
+    let m = token_values[..].len();
+    if token_ids[j] == 0 {
         return;
     }
     let h = domain_state::token::lose(
         gone,
         domain_state::token::holding_of(Token {
-            mode: modes[j],
-            value: values[j],
+            mode: token_states[j],
+            value: token_values[j],
         }),
     );
     let t = domain_state::token::new_token(h);
-    modes[j] = t.mode;
-    values[j] = t.value;
+    token_states[j] = t.mode;
+    token_values[j] = t.value;
     if domain_state::token::free(h) {
-        keys[j] = 0;
+        token_ids[j] = 0;
     }
 }
 
 // The users at the places of a mask leave.
-pub fn leave(keys: &mut [u16; 64], modes: &mut [u8; 64], values: &mut [u64; 64], gone: u64)
-    ensures { λ _. ⌜ tokens-of (now (keys .exit)) (now (modes .exit)) (now (values .exit))
-        ≡ sweep-tokens (lose gone) (tokens-of (now (keys .entry)) (now (modes .entry)) (now (values .entry))) ⌝ }
+pub fn leave(
+    token_ids: &mut [u16; 64],
+    token_states: &mut [u8; 64],
+    token_values: &mut [u64; 64],
+    gone: u64,
+)
+    ensures { λ _. ⌜ tokens-of (now («token_ids» .exit)) (now («token_states» .exit)) (now («token_values» .exit))
+        ≡ sweep-tokens (lose gone) (tokens-of (now («token_ids» .entry)) (now («token_states» .entry)) (now («token_values» .entry))) ⌝ }
 {
     // How long the columns are: what the loop keeps.
-    let n = keys[..].len();
-    let m = modes[..].len();
-    let o = values[..].len();
-    let mut j = cols_walk::used_from(keys, 0);
+    let n = token_ids[..].len();
+    let m = token_states[..].len();
+    let o = token_values[..].len();
+    let mut j = cols_walk::used_from(token_ids, 0);
     while j < 64 {
-        leave_place(keys, modes, values, gone, j);
-        j = cols_walk::used_from(keys, j + 1);
+        leave_place(token_ids, token_states, token_values, gone, j);
+        j = cols_walk::used_from(token_ids, j + 1);
     }
 }

@@ -6,27 +6,27 @@ ghost use Rattle.domain.specs.Tables.{users-of, remove-users};
 ghost use Rattle.serve_leave_tables.specs.Fates.{ends};
 
 // The user at place j leaves; a free place stays as it is.
-fn leave_place(names: &mut [u16; 64], homes: &mut [u8; 64], j: usize)
+fn leave_place(user_ids: &mut [u16; 64], user_links: &mut [u8; 64], j: usize)
     requires { ⌜ j < 64 ⌝ }
-    ensures { λ _. ⌜ Turns 0 ends j (now (names .entry)) (now (homes .entry)) (now (names .exit)) (now (homes .exit)) ⌝ }
+    ensures { λ _. ⌜ Turns 0 ends j (now («user_ids» .entry)) (now («user_links» .entry)) (now («user_ids» .exit)) (now («user_links» .exit)) ⌝ }
 {
-    if names[j] == 0 {
+    if user_ids[j] == 0 {
         return;
     }
-    names[j] = 0;
-    homes[j] = 0;
+    user_ids[j] = 0;
+    user_links[j] = 0;
 }
 
 // The users at the places of a mask leave.
-pub fn leave(names: &mut [u16; 64], homes: &mut [u8; 64], gone: u64)
-    ensures { λ _. ⌜ users-of (now (names .exit)) (now (homes .exit)) ≡ remove-users (users-of (now (names .entry)) (now (homes .entry))) gone ⌝ }
+pub fn leave(user_ids: &mut [u16; 64], user_links: &mut [u8; 64], gone: u64)
+    ensures { λ _. ⌜ users-of (now («user_ids» .exit)) (now («user_links» .exit)) ≡ remove-users (users-of (now («user_ids» .entry)) (now («user_links» .entry))) gone ⌝ }
 {
     // How long the columns are: what the loop keeps.
-    let n = names[..].len();
-    let m = homes[..].len();
+    let n = user_ids[..].len();
+    let m = user_links[..].len();
     let mut j = cols_masks::next_in(gone, 0);
     while j < 64 {
-        leave_place(names, homes, j);
+        leave_place(user_ids, user_links, j);
         j = cols_masks::next_in(gone, j + 1);
     }
 }

@@ -23,38 +23,46 @@ use serve_reply::confirms;
 
 // CCrq by u on p.
 pub fn convene(
-    names: &[u16; 64],
-    homes: &[u8; 64],
-    ids: &mut [u16; 128],
-    roles: &mut [u8; 128],
-    chairs: &mut [u8; 128],
-    guests: &mut [u64; 128],
-    marks: &mut [u16; 128],
+    user_ids: &[u16; 64],
+    user_links: &[u8; 64],
+    channel_ids: &mut [u16; 128],
+    channel_kinds: &mut [u8; 128],
+    managers: &mut [u8; 128],
+    admitted: &mut [u64; 128],
+    joined: &mut [u16; 128],
     limit: u8,
     p: u8,
     u: u16,
     out: &mut [u8],
 ) -> Answer
-    ensures { λ r. ⌜ answered r (channels-of (now (ids .exit)) (now (roles .exit)) (now (chairs .exit)) (now (guests .exit)) (now (marks .exit))) (now (out .exit))
-        ≡ settle (channels-of (now (ids .entry)) (now (roles .entry)) (now (chairs .entry)) (now (guests .entry)) (now (marks .entry)))
-        (conveneOf (grant (channels-of (now (ids .entry)) (now (roles .entry)) (now (chairs .entry)) (now (guests .entry)) (now (marks .entry)))) (at-limit limit (now (ids .entry))) (users-of (now (names .entry)) (now (homes .entry)))
-        (channels-of (now (ids .entry)) (now (roles .entry)) (now (chairs .entry)) (now (guests .entry)) (now (marks .entry))) p u)
+    ensures { λ r. ⌜ answered r (channels-of (now («channel_ids» .exit)) (now («channel_kinds» .exit)) (now (managers .exit)) (now (admitted .exit)) (now (joined .exit))) (now (out .exit))
+        ≡ settle (channels-of (now («channel_ids» .entry)) (now («channel_kinds» .entry)) (now (managers .entry)) (now (admitted .entry)) (now (joined .entry)))
+        (conveneOf (grant (channels-of (now («channel_ids» .entry)) (now («channel_kinds» .entry)) (now (managers .entry)) (now (admitted .entry)) (now (joined .entry)))) (at-limit limit (now («channel_ids» .entry))) (users-of (now («user_ids» .entry)) (now («user_links» .entry)))
+        (channels-of (now («channel_ids» .entry)) (now («channel_kinds» .entry)) (now (managers .entry)) (now (admitted .entry)) (now (joined .entry))) p u)
         (now (out .entry)) ⌝ }
 {
-    let i = serve_reply::initiator(names, homes, p, u);
+    let i = serve_reply::initiator(user_ids, user_links, p, u);
     if 64 <= i {
         return serve_reply::ignored();
     }
-    if domain_tables::at_limit(limit, ids) {
+    if domain_tables::at_limit(limit, channel_ids) {
         return confirms::deny_convene(out, p, Result::TooManyChannels, u);
     }
-    let new = cols_walk::unused(ids);
+    let new = cols_walk::unused(channel_ids);
     let a = confirms::take_convene(out, p, u, new);
     if serve_reply::refused(a) {
         return a;
     }
     let ch = domain_state::channel::new_channel(Kind::Private(i as u8, 0), 0);
-    domain_tables::channels::add_channel(ids, roles, chairs, guests, marks, new, ch);
+    domain_tables::channels::add_channel(
+        channel_ids,
+        channel_kinds,
+        managers,
+        admitted,
+        joined,
+        new,
+        ch,
+    );
     a
 }
 
@@ -74,28 +82,28 @@ fn presides(ch: Channel, i: u8) -> bool
 
 // The place of private channel c, where u on p manages it; 128 is nowhere.
 fn managed(
-    names: &[u16; 64],
-    homes: &[u8; 64],
-    ids: &[u16; 128],
-    roles: &[u8; 128],
-    chairs: &[u8; 128],
-    guests: &[u64; 128],
-    marks: &[u16; 128],
+    user_ids: &[u16; 64],
+    user_links: &[u8; 64],
+    channel_ids: &[u16; 128],
+    channel_kinds: &[u8; 128],
+    managers: &[u8; 128],
+    admitted: &[u64; 128],
+    joined: &[u16; 128],
     p: u8,
     u: u16,
     c: u16,
 ) -> usize
-    ensures { λ r. ⌜ (r < 128 → (act : (ℕ → ℕ → ℕ → Effect Channels)) → manages (users-of (now (names .entry)) (now (homes .entry))) (channels-of (now (ids .entry)) (now (roles .entry)) (now (chairs .entry)) (now (guests .entry)) (now (marks .entry))) p u c act
-        ≡ act r (channel (channels-of (now (ids .entry)) (now (roles .entry)) (now (chairs .entry)) (now (guests .entry)) (now (marks .entry))) r .chair) (channel (channels-of (now (ids .entry)) (now (roles .entry)) (now (chairs .entry)) (now (guests .entry)) (now (marks .entry))) r .guests))
-        × (128 ≤ r → (act : (ℕ → ℕ → ℕ → Effect Channels)) → manages (users-of (now (names .entry)) (now (homes .entry))) (channels-of (now (ids .entry)) (now (roles .entry)) (now (chairs .entry)) (now (guests .entry)) (now (marks .entry))) p u c act ≡ ignoredBy) ⌝ }
+    ensures { λ r. ⌜ (r < 128 → (act : (ℕ → ℕ → ℕ → Effect Channels)) → manages (users-of (now («user_ids» .entry)) (now («user_links» .entry))) (channels-of (now («channel_ids» .entry)) (now («channel_kinds» .entry)) (now (managers .entry)) (now (admitted .entry)) (now (joined .entry))) p u c act
+        ≡ act r (channel (channels-of (now («channel_ids» .entry)) (now («channel_kinds» .entry)) (now (managers .entry)) (now (admitted .entry)) (now (joined .entry))) r .chair) (channel (channels-of (now («channel_ids» .entry)) (now («channel_kinds» .entry)) (now (managers .entry)) (now (admitted .entry)) (now (joined .entry))) r .guests))
+        × (128 ≤ r → (act : (ℕ → ℕ → ℕ → Effect Channels)) → manages (users-of (now («user_ids» .entry)) (now («user_links» .entry))) (channels-of (now («channel_ids» .entry)) (now («channel_kinds» .entry)) (now (managers .entry)) (now (admitted .entry)) (now (joined .entry))) p u c act ≡ ignoredBy) ⌝ }
 {
-    let i = serve_reply::initiator(names, homes, p, u);
+    let i = serve_reply::initiator(user_ids, user_links, p, u);
     if 64 <= i {
         return 128;
     }
-    let j = cols_find::find(ids, c);
+    let j = cols_find::find(channel_ids, c);
     if j < 128 {
-        let ch = domain_tables::channels::channel_at(roles, chairs, guests, marks, j);
+        let ch = domain_tables::channels::channel_at(channel_kinds, managers, admitted, joined, j);
         if presides(ch, i as u8) {
             return j;
         }
@@ -104,43 +112,54 @@ fn managed(
 }
 
 // The connections with the manager or an admitted user.
-fn homes_of(names: &[u16; 64], homes: &[u8; 64], chair: u8, guests: u64) -> u16
-    ensures { λ r. ⌜ r ≡ hostsOf (users-of (now (names .entry)) (now (homes .entry))) (with seats guests chair) ⌝ }
+fn homes_of(user_ids: &[u16; 64], user_links: &[u8; 64], chair: u8, guests: u64) -> u16
+    ensures { λ r. ⌜ r ≡ hostsOf (users-of (now («user_ids» .entry)) (now («user_links» .entry))) (with seats guests chair) ⌝ }
 {
-    domain_tables::users::hosts(names, homes, cols_masks::with_seat(guests, chair))
+    domain_tables::users::hosts(user_ids, user_links, cols_masks::with_seat(guests, chair))
 }
 
 // CDrq by u on p for channel c.
 pub fn disband(
-    names: &[u16; 64],
-    homes: &[u8; 64],
-    ids: &mut [u16; 128],
-    roles: &mut [u8; 128],
-    chairs: &mut [u8; 128],
-    guests: &mut [u64; 128],
-    marks: &mut [u16; 128],
+    user_ids: &[u16; 64],
+    user_links: &[u8; 64],
+    channel_ids: &mut [u16; 128],
+    channel_kinds: &mut [u8; 128],
+    managers: &mut [u8; 128],
+    admitted: &mut [u64; 128],
+    joined: &mut [u16; 128],
     p: u8,
     u: u16,
     c: u16,
     out: &mut [u8],
 ) -> Answer
-    ensures { λ r. ⌜ answered r (channels-of (now (ids .exit)) (now (roles .exit)) (now (chairs .exit)) (now (guests .exit)) (now (marks .exit))) (now (out .exit))
-        ≡ settle (channels-of (now (ids .entry)) (now (roles .entry)) (now (chairs .entry)) (now (guests .entry)) (now (marks .entry)))
-        (disbandOf (users-of (now (names .entry)) (now (homes .entry))) (channels-of (now (ids .entry)) (now (roles .entry)) (now (chairs .entry)) (now (guests .entry)) (now (marks .entry))) p u c)
+    ensures { λ r. ⌜ answered r (channels-of (now («channel_ids» .exit)) (now («channel_kinds» .exit)) (now (managers .exit)) (now (admitted .exit)) (now (joined .exit))) (now (out .exit))
+        ≡ settle (channels-of (now («channel_ids» .entry)) (now («channel_kinds» .entry)) (now (managers .entry)) (now (admitted .entry)) (now (joined .entry)))
+        (disbandOf (users-of (now («user_ids» .entry)) (now («user_links» .entry))) (channels-of (now («channel_ids» .entry)) (now («channel_kinds» .entry)) (now (managers .entry)) (now (admitted .entry)) (now (joined .entry))) p u c)
         (now (out .entry)) ⌝ }
 {
-    let j = managed(names, homes, ids, roles, chairs, guests, marks, p, u, c);
+    let j = managed(
+        user_ids,
+        user_links,
+        channel_ids,
+        channel_kinds,
+        managers,
+        admitted,
+        joined,
+        p,
+        u,
+        c,
+    );
     if 128 <= j {
         return serve_reply::ignored();
     }
-    let ch = domain_tables::channels::channel_at(roles, chairs, guests, marks, j);
-    let mask = homes_of(names, homes, ch.chair, ch.guests);
+    let ch = domain_tables::channels::channel_at(channel_kinds, managers, admitted, joined, j);
+    let mask = homes_of(user_ids, user_links, ch.chair, ch.guests);
     let m = out_messages::disband_indication(c);
     let a = serve_reply::tell(out, mask, &m);
     if serve_reply::refused(a) {
         return a;
     }
-    domain_tables::channels::end_channel(ids, roles, chairs, guests, marks, j);
+    domain_tables::channels::end_channel(channel_ids, channel_kinds, managers, admitted, joined, j);
     a
 }
 
@@ -155,8 +174,14 @@ fn pick_for(s: Say, guests: u64) -> Pick
 }
 
 // The channel once the users at these places are admitted or expelled.
-fn with_change(names: &[u16; 64], homes: &[u8; 64], s: Say, ch: Channel, seats: u64) -> Channel
-    ensures { λ r. ⌜ r ≡ changed (users-of (now (names .entry)) (now (homes .entry))) s ch seats ⌝ }
+fn with_change(
+    user_ids: &[u16; 64],
+    user_links: &[u8; 64],
+    s: Say,
+    ch: Channel,
+    seats: u64,
+) -> Channel
+    ensures { λ r. ⌜ r ≡ changed (users-of (now («user_ids» .entry)) (now («user_links» .entry))) s ch seats ⌝ }
 {
     match s {
         Say::Admits(_, _) => Channel {
@@ -167,7 +192,7 @@ fn with_change(names: &[u16; 64], homes: &[u8; 64], s: Say, ch: Channel, seats: 
         },
         Say::Expels(_) => {
             let stay = cols_masks::other_seats(ch.guests, seats);
-            let mask = homes_of(names, homes, ch.chair, stay);
+            let mask = homes_of(user_ids, user_links, ch.chair, stay);
             Channel {
                 role: ch.role,
                 chair: ch.chair,
@@ -188,30 +213,30 @@ fn done(a: Answer) -> bool
 
 // The first `count` ids are admitted to the private channel at place j, or expelled.
 fn change(
-    names: &[u16; 64],
-    homes: &[u8; 64],
-    roles: &mut [u8; 128],
-    chairs: &mut [u8; 128],
-    guests: &mut [u64; 128],
-    marks: &mut [u16; 128],
+    user_ids: &[u16; 64],
+    user_links: &[u8; 64],
+    channel_kinds: &mut [u8; 128],
+    managers: &mut [u8; 128],
+    admitted: &mut [u64; 128],
+    joined: &mut [u16; 128],
     j: usize,
     s: Say,
     listed: &mut [u16; 64],
     count: usize,
     out: &mut [u8],
 ) -> Answer
-    ensures { λ r. ⌜ ((ids : List ℕ) → answered r (channels-of ids (now (roles .exit)) (now (chairs .exit)) (now (guests .exit)) (now (marks .exit))) (now (out .exit))
-        ≡ settle (channels-of ids (now (roles .entry)) (now (chairs .entry)) (now (guests .entry)) (now (marks .entry)))
-        (changes (users-of (now (names .entry)) (now (homes .entry))) (channels-of ids (now (roles .entry)) (now (chairs .entry)) (now (guests .entry)) (now (marks .entry))) j s (take count (now (listed .entry))))
+    ensures { λ r. ⌜ ((ids : List ℕ) → answered r (channels-of ids (now («channel_kinds» .exit)) (now (managers .exit)) (now (admitted .exit)) (now (joined .exit))) (now (out .exit))
+        ≡ settle (channels-of ids (now («channel_kinds» .entry)) (now (managers .entry)) (now (admitted .entry)) (now (joined .entry)))
+        (changes (users-of (now («user_ids» .entry)) (now («user_links» .entry))) (channels-of ids (now («channel_kinds» .entry)) (now (managers .entry)) (now (admitted .entry)) (now (joined .entry))) j s (take count (now (listed .entry))))
         (now (out .entry))) ⌝ }
 {
-    let ch = domain_tables::channels::channel_at(roles, chairs, guests, marks, j);
+    let ch = domain_tables::channels::channel_at(channel_kinds, managers, admitted, joined, j);
     let k = pick_for(s, ch.guests);
-    let told = serve_private_tell::tell_chosen(out, names, homes, k, s, listed, count);
+    let told = serve_private_tell::tell_chosen(out, user_ids, user_links, k, s, listed, count);
     let a = told.answer;
     if done(a) {
-        let now = with_change(names, homes, s, ch, told.seats);
-        domain_tables::channels::set_channel(roles, chairs, guests, marks, j, now);
+        let now = with_change(user_ids, user_links, s, ch, told.seats);
+        domain_tables::channels::set_channel(channel_kinds, managers, admitted, joined, j, now);
     }
     a
 }
@@ -228,13 +253,13 @@ fn said(admits: bool, u: u16, c: u16) -> Say
 
 // CArq or CErq by u on p for channel c: the first `count` of the ids are admitted, or expelled. One way for both, so that little stands on the stack.
 pub fn revise(
-    names: &[u16; 64],
-    homes: &[u8; 64],
-    ids: &[u16; 128],
-    roles: &mut [u8; 128],
-    chairs: &mut [u8; 128],
-    guests: &mut [u64; 128],
-    marks: &mut [u16; 128],
+    user_ids: &[u16; 64],
+    user_links: &[u8; 64],
+    channel_ids: &[u16; 128],
+    channel_kinds: &mut [u8; 128],
+    managers: &mut [u8; 128],
+    admitted: &mut [u64; 128],
+    joined: &mut [u16; 128],
     p: u8,
     admits: bool,
     u: u16,
@@ -243,24 +268,35 @@ pub fn revise(
     count: usize,
     out: &mut [u8],
 ) -> Answer
-    ensures { λ r. ⌜ answered r (channels-of (now (ids .entry)) (now (roles .exit)) (now (chairs .exit)) (now (guests .exit)) (now (marks .exit))) (now (out .exit))
-        ≡ settle (channels-of (now (ids .entry)) (now (roles .entry)) (now (chairs .entry)) (now (guests .entry)) (now (marks .entry)))
-        ((if admits then admitOf else expelOf) (users-of (now (names .entry)) (now (homes .entry))) (channels-of (now (ids .entry)) (now (roles .entry)) (now (chairs .entry)) (now (guests .entry)) (now (marks .entry))) p u c
+    ensures { λ r. ⌜ answered r (channels-of (now («channel_ids» .entry)) (now («channel_kinds» .exit)) (now (managers .exit)) (now (admitted .exit)) (now (joined .exit))) (now (out .exit))
+        ≡ settle (channels-of (now («channel_ids» .entry)) (now («channel_kinds» .entry)) (now (managers .entry)) (now (admitted .entry)) (now (joined .entry)))
+        ((if admits then admitOf else expelOf) (users-of (now («user_ids» .entry)) (now («user_links» .entry))) (channels-of (now («channel_ids» .entry)) (now («channel_kinds» .entry)) (now (managers .entry)) (now (admitted .entry)) (now (joined .entry))) p u c
         (take count (now (listed .entry))))
         (now (out .entry)) ⌝ }
 {
-    let j = managed(names, homes, ids, roles, chairs, guests, marks, p, u, c);
+    let j = managed(
+        user_ids,
+        user_links,
+        channel_ids,
+        channel_kinds,
+        managers,
+        admitted,
+        joined,
+        p,
+        u,
+        c,
+    );
     if 128 <= j {
         return serve_reply::ignored();
     }
     let s = said(admits, u, c);
     change(
-        names,
-        homes,
-        roles,
-        chairs,
-        guests,
-        marks,
+        user_ids,
+        user_links,
+        channel_kinds,
+        managers,
+        admitted,
+        joined,
         j,
         s,
         listed,

@@ -60,8 +60,8 @@ fn add_share(shares: &mut [u8], firsts: &mut [u8], q: u8, n: u8)
 // The id at place i of a list, where its user is found, counts and is not taken yet: it is stored behind those taken, its connection beside it.
 // What stands after place i is as it was.
 fn take_one(
-    names: &[u16; 64],
-    homes: &[u8; 64],
+    user_ids: &[u16; 64],
+    user_links: &[u8; 64],
     k: Pick,
     list: &mut [u16; 64],
     i: usize,
@@ -71,13 +71,13 @@ fn take_one(
     t: Taken,
 ) -> Taken
     requires { ⌜ (i < 64) × (t .count ≤ i) × (length (now list) ≡ 64) × (64 ≤ length (now spots)) × (length (now shares) ≡ 16) × (length (now firsts) ≡ 16) × ((q : ℕ) → q < 16 → getD (now shares) q 0 ≤ 64) ⌝ }
-    ensures { λ r. ⌜ ((passed : List ℕ) → Takes (users-of (now (names .entry)) (now (homes .entry))) k passed (take (t .count) (now (list .entry))) (now (spots .entry)) (now (shares .entry)) (now (firsts .entry)) (t .seats)
-        → Takes (users-of (now (names .entry)) (now (homes .entry))) k (passed ++ getD (now (list .entry)) i 0 ∷ []) (take (r .count) (now (list .exit))) (now (spots .exit)) (now (shares .exit)) (now (firsts .exit)) (r .seats))
+    ensures { λ r. ⌜ ((passed : List ℕ) → Takes (users-of (now («user_ids» .entry)) (now («user_links» .entry))) k passed (take (t .count) (now (list .entry))) (now (spots .entry)) (now (shares .entry)) (now (firsts .entry)) (t .seats)
+        → Takes (users-of (now («user_ids» .entry)) (now («user_links» .entry))) k (passed ++ getD (now (list .entry)) i 0 ∷ []) (take (r .count) (now (list .exit))) (now (spots .exit)) (now (shares .exit)) (now (firsts .exit)) (r .seats))
         × ((j : ℕ) → i < j → getD (now (list .exit)) j 0 ≡ getD (now (list .entry)) j 0) × (length (now (list .exit)) ≡ 64) × (r .count ≤ i + 1) ⌝ }
 {
-    let at = &homes[..];
+    let at = &user_links[..];
     let x = list[i];
-    let j = cols_find::find(names, x);
+    let j = cols_find::find(user_ids, x);
     if j < at.len() {
         let seat = j as u8;
         if counts(k, seat) {
@@ -98,8 +98,8 @@ fn take_one(
 
 // Of the first `count` ids those that are picked, each once: each id is looked for once.
 fn chosen(
-    names: &[u16; 64],
-    homes: &[u8; 64],
+    user_ids: &[u16; 64],
+    user_links: &[u8; 64],
     k: Pick,
     list: &mut [u16; 64],
     count: usize,
@@ -108,14 +108,14 @@ fn chosen(
     firsts: &mut [u8],
 ) -> Taken
     requires { ⌜ (64 ≤ length (now spots)) × (now shares ≡ replicate 16 0) × (now firsts ≡ replicate 16 0) ⌝ }
-    ensures { λ r. ⌜ Takes (users-of (now (names .entry)) (now (homes .entry))) k (take count (now (list .entry))) (take (r .count) (now (list .exit))) (now (spots .exit)) (now (shares .exit)) (now (firsts .exit)) (r .seats)
+    ensures { λ r. ⌜ Takes (users-of (now («user_ids» .entry)) (now («user_links» .entry))) k (take count (now (list .entry))) (take (r .count) (now (list .exit))) (now (spots .exit)) (now (shares .exit)) (now (firsts .exit)) (r .seats)
         × (r .count ≤ 64) ⌝ }
 {
     let m = cols_walk::at_most(count, list[..].len());
     let mut t = Taken { count: 0, seats: 0 };
     let mut i = 0;
     while i < m {
-        t = take_one(names, homes, k, list, i, spots, shares, firsts, t);
+        t = take_one(user_ids, user_links, k, list, i, spots, shares, firsts, t);
         i += 1;
     }
     t
@@ -269,22 +269,22 @@ pub struct Told {
 // Those picked of the first `count` ids are told, each connection its own. They are kept in the list itself.
 pub fn tell_chosen(
     out: &mut [u8],
-    names: &[u16; 64],
-    homes: &[u8; 64],
+    user_ids: &[u16; 64],
+    user_links: &[u8; 64],
     k: Pick,
     s: Say,
     list: &mut [u16; 64],
     count: usize,
 ) -> Told
-    ensures { λ r. ⌜ (answered {A = Unit {0}} (r .answer) tt (now (out .exit)) ≡ settle tt (tells (users-of (now (names .entry)) (now (homes .entry))) s (sieved (users-of (now (names .entry)) (now (homes .entry))) k (take count (now (list .entry)))) tt) (now (out .entry)))
-        × (r .seats ≡ placesOf (users-of (now (names .entry)) (now (homes .entry))) (sieved (users-of (now (names .entry)) (now (homes .entry))) k (take count (now (list .entry))))) ⌝ }
+    ensures { λ r. ⌜ (answered {A = Unit {0}} (r .answer) tt (now (out .exit)) ≡ settle tt (tells (users-of (now («user_ids» .entry)) (now («user_links» .entry))) s (sieved (users-of (now («user_ids» .entry)) (now («user_links» .entry))) k (take count (now (list .entry)))) tt) (now (out .entry)))
+        × (r .seats ≡ placesOf (users-of (now («user_ids» .entry)) (now («user_links» .entry))) (sieved (users-of (now («user_ids» .entry)) (now («user_links» .entry))) k (take count (now (list .entry))))) ⌝ }
 {
     let mut spots = [16u8; 64];
     let mut shares = [0u8; 16];
     let mut firsts = [0u8; 16];
     let t = chosen(
-        names,
-        homes,
+        user_ids,
+        user_links,
         k,
         list,
         count,

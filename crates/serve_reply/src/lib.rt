@@ -14,11 +14,11 @@ use domain::answer::Answer;
 use domain::numbers::Reply;
 
 // The place of an initiator, which must be attached on p; 64 is nowhere.
-pub fn initiator(names: &[u16; 64], homes: &[u8; 64], p: u8, u: u16) -> usize
-    ensures { λ r. ⌜ place 64 r ≡ attached (users-of (now (names .entry)) (now (homes .entry))) p u ⌝ }
+pub fn initiator(user_ids: &[u16; 64], user_links: &[u8; 64], p: u8, u: u16) -> usize
+    ensures { λ r. ⌜ place 64 r ≡ attached (users-of (now («user_ids» .entry)) (now («user_links» .entry))) p u ⌝ }
 {
-    let all = &names[..];
-    let i = domain_tables::users::attached(names, homes, p, u);
+    let all = &user_ids[..];
+    let i = domain_tables::users::attached(user_ids, user_links, p, u);
     if i < all.len() { i } else { 64 }
 }
 

@@ -22,24 +22,24 @@ pub fn start(
     users: u32,
     tokens: u32,
     links: &mut u16,
-    names: &mut [u16; 64],
-    homes: &mut [u8; 64],
-    ids: &mut [u16; 128],
-    roles: &mut [u8; 128],
-    chairs: &mut [u8; 128],
-    guests: &mut [u64; 128],
-    marks: &mut [u16; 128],
-    keys: &mut [u16; 64],
-    modes: &mut [u8; 64],
-    values: &mut [u64; 64],
+    user_ids: &mut [u16; 64],
+    user_links: &mut [u8; 64],
+    channel_ids: &mut [u16; 128],
+    channel_kinds: &mut [u8; 128],
+    managers: &mut [u8; 128],
+    admitted: &mut [u64; 128],
+    joined: &mut [u16; 128],
+    token_ids: &mut [u16; 64],
+    token_states: &mut [u8; 64],
+    token_values: &mut [u64; 64],
 ) -> Started
     ensures { λ r. ⌜ _≡_ {A = ℕ × Domain} (
       replyNumber (r .reply),
-      domain-of (r .limits) (now (links .exit)) (now (names .exit)) (now (homes .exit)) (now (ids .exit)) (now (roles .exit))
-          (now (chairs .exit)) (now (guests .exit)) (now (marks .exit)) (now (keys .exit)) (now (modes .exit)) (now (values .exit)),
+      domain-of (r .limits) (now (links .exit)) (now («user_ids» .exit)) (now («user_links» .exit)) (now («channel_ids» .exit)) (now («channel_kinds» .exit))
+          (now (managers .exit)) (now (admitted .exit)) (now (joined .exit)) (now («token_ids» .exit)) (now («token_states» .exit)) (now («token_values» .exit)),
     )
-        (begun channels users tokens (domain-of (limited 0 0 0) (now (links .entry)) (now (names .entry)) (now (homes .entry)) (now (ids .entry)) (now (roles .entry))
-        (now (chairs .entry)) (now (guests .entry)) (now (marks .entry)) (now (keys .entry)) (now (modes .entry)) (now (values .entry)))) ⌝ }
+        (begun channels users tokens (domain-of (limited 0 0 0) (now (links .entry)) (now («user_ids» .entry)) (now («user_links» .entry)) (now («channel_ids» .entry)) (now («channel_kinds» .entry))
+        (now (managers .entry)) (now (admitted .entry)) (now (joined .entry)) (now («token_ids» .entry)) (now («token_states» .entry)) (now («token_values» .entry)))) ⌝ }
 {
     if !in_range(channels, users, tokens) {
         return Started {
@@ -52,16 +52,16 @@ pub fn start(
         };
     }
     *links = 0;
-    *names = [0u16; 64];
-    *homes = [0u8; 64];
-    *ids = [0u16; 128];
-    *roles = [0u8; 128];
-    *chairs = [0u8; 128];
-    *guests = [0u64; 128];
-    *marks = [0u16; 128];
-    *keys = [0u16; 64];
-    *modes = [0u8; 64];
-    *values = [0u64; 64];
+    *user_ids = [0u16; 64];
+    *user_links = [0u8; 64];
+    *channel_ids = [0u16; 128];
+    *channel_kinds = [0u8; 128];
+    *managers = [0u8; 128];
+    *admitted = [0u64; 128];
+    *joined = [0u16; 128];
+    *token_ids = [0u16; 64];
+    *token_states = [0u8; 64];
+    *token_values = [0u64; 64];
     Started {
         reply: Reply::Done,
         limits: Limits {
@@ -112,19 +112,19 @@ pub fn open(links: &mut u16, p: u8) -> Reply
 
 // A channel's audience: the number of connections joined, 0 if it is not in use.
 pub fn audience(
-    ids: &[u16; 128],
-    roles: &[u8; 128],
-    chairs: &[u8; 128],
-    guests: &[u64; 128],
-    marks: &[u16; 128],
+    channel_ids: &[u16; 128],
+    channel_kinds: &[u8; 128],
+    managers: &[u8; 128],
+    admitted: &[u64; 128],
+    joined: &[u16; 128],
     c: u16,
 ) -> u32
-    ensures { λ r. ⌜ r ≡ audienceOf (channels-of (now (ids .entry)) (now (roles .entry)) (now (chairs .entry)) (now (guests .entry)) (now (marks .entry))) c ⌝ }
+    ensures { λ r. ⌜ r ≡ audienceOf (channels-of (now («channel_ids» .entry)) (now («channel_kinds» .entry)) (now (managers .entry)) (now (admitted .entry)) (now (joined .entry))) c ⌝ }
 {
-    let j = cols_find::find(ids, c);
-    let rs = &roles[..];
+    let j = cols_find::find(channel_ids, c);
+    let rs = &channel_kinds[..];
     if j < rs.len() {
-        let ch = domain_tables::channels::channel_at(roles, chairs, guests, marks, j);
+        let ch = domain_tables::channels::channel_at(channel_kinds, managers, admitted, joined, j);
         return cols_masks::count_links(ch.marks);
     }
     0

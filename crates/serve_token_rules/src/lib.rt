@@ -49,23 +49,23 @@ pub struct Deed {
 }
 
 // The place of u, who must be attached on p; 64 is nowhere.
-pub fn asker(names: &[u16; 64], homes: &[u8; 64], p: u8, u: u16) -> u8
-    ensures { λ r. ⌜ (r ≡ 64 → attached (users-of (now (names .entry)) (now (homes .entry))) p u ≡ Nowhere)
-        × ((r ≡ 64 → ⊥) → attached (users-of (now (names .entry)) (now (homes .entry))) p u ≡ At r) ⌝ }
+pub fn asker(user_ids: &[u16; 64], user_links: &[u8; 64], p: u8, u: u16) -> u8
+    ensures { λ r. ⌜ (r ≡ 64 → attached (users-of (now («user_ids» .entry)) (now («user_links» .entry))) p u ≡ Nowhere)
+        × ((r ≡ 64 → ⊥) → attached (users-of (now («user_ids» .entry)) (now («user_links» .entry))) p u ≡ At r) ⌝ }
 {
-    let at = domain_tables::users::attached(names, homes, p, u);
-    if at < names[..].len() {
+    let at = domain_tables::users::attached(user_ids, user_links, p, u);
+    if at < user_ids[..].len() {
         return at as u8;
     }
     NOWHERE
 }
 
 // Where the token is free, whether the limit is reached: the table is counted for no other.
-fn full_for(h: Holding, limit: u8, keys: &[u16; 64]) -> bool
-    ensures { λ r. ⌜ (is-free h ≡ true → r ≡ at-limit limit (now (keys .entry))) ⌝ }
+fn full_for(h: Holding, limit: u8, token_ids: &[u16; 64]) -> bool
+    ensures { λ r. ⌜ (is-free h ≡ true → r ≡ at-limit limit (now («token_ids» .entry))) ⌝ }
 {
     if domain_state::token::free(h) {
-        return domain_tables::at_limit(limit, keys);
+        return domain_tables::at_limit(limit, token_ids);
     }
     false
 }
@@ -114,24 +114,24 @@ fn turned(kind: Confirm, p: u8, u: u16, i: u8, k: u16, h: Holding, t: Turned) ->
 }
 
 // The place of the recipient of an offer of a token in state h by the user at place i, who must have grabbed it; 64 is nowhere.
-fn recipient_at(names: &[u16; 64], h: Holding, i: u8, recipient: u16) -> usize
-    ensures { λ r. ⌜ (r < 64 → (grabbed-by h i ≡ true) × (findIn (now (names .entry)) recipient ≡ At r))
-        × (64 ≤ r → grabbed-by h i ≡ true → findIn (now (names .entry)) recipient ≡ Nowhere) ⌝ }
+fn recipient_at(user_ids: &[u16; 64], h: Holding, i: u8, recipient: u16) -> usize
+    ensures { λ r. ⌜ (r < 64 → (grabbed-by h i ≡ true) × (findIn (now («user_ids» .entry)) recipient ≡ At r))
+        × (64 ≤ r → grabbed-by h i ≡ true → findIn (now («user_ids» .entry)) recipient ≡ Nowhere) ⌝ }
 {
     if domain_state::token::has_grabbed(h, i) {
-        return cols_find::find(names, recipient);
+        return cols_find::find(user_ids, recipient);
     }
     64
 }
 
 // Token k is being given by u, at place i, to the recipient at place j, who is told.
-fn given(homes: &[u8; 64], u: u16, i: u8, k: u16, j: u8, recipient: u16) -> Deed
-    ensures { λ r. ⌜ ((ts : Tokens) → Does ts k r (done (set-token ts k (Holding.Giving i j)) (to (getD (now (homes .entry)) j 16) (TVin u k recipient) ∷ []))) ⌝ }
+fn given(user_links: &[u8; 64], u: u16, i: u8, k: u16, j: u8, recipient: u16) -> Deed
+    ensures { λ r. ⌜ ((ts : Tokens) → Does ts k r (done (set-token ts k (Holding.Giving i j)) (to (getD (now («user_links» .entry)) j 16) (TVin u k recipient) ∷ []))) ⌝ }
 {
     Deed {
         fate: Fate::Turns(domain_state::token::new_token(Holding::Giving(i, j))),
         told: true,
-        q: domain_tables::users::link_at(homes, j),
+        q: domain_tables::users::link_at(user_links, j),
         m: out_messages::give_indication(u, k, recipient),
     }
 }
@@ -156,36 +156,36 @@ fn offer_fails(h: Holding, i: u8) -> Result
 // Any request but an answer, by the user at place i, for the token at a place or nowhere; an offer is one that is not passed on. The state is made
 // out behind the request: so the two are told apart by one jump each.
 fn attempt(
-    keys: &[u16; 64],
-    modes: &[u8; 64],
-    values: &[u64; 64],
+    token_ids: &[u16; 64],
+    token_states: &[u8; 64],
+    token_values: &[u64; 64],
     at: usize,
     limit: u8,
     i: u8,
     ask: Ask,
 ) -> Outcome
-    ensures { λ r. ⌜ (r .kind ≡ kindOf ask) × (r .before ≡ standing (now (modes .entry)) (now (values .entry)) at)
-        × (turnedOf (r .turned) ≡ attempted ask (at-limit limit (now (keys .entry))) (r .before) i) ⌝ }
+    ensures { λ r. ⌜ (r .kind ≡ kindOf ask) × (r .before ≡ standing (now («token_states» .entry)) (now («token_values» .entry)) at)
+        × (turnedOf (r .turned) ≡ attempted ask (at-limit limit (now («token_ids» .entry))) (r .before) i) ⌝ }
 {
     match ask {
         Ask::Grab => {
-            let h = domain_tables::tokens::state_at(modes, values, at);
+            let h = domain_tables::tokens::state_at(token_states, token_values, at);
             Outcome {
                 kind: Confirm::Grab,
                 before: h,
-                turned: domain_state::token::grab(full_for(h, limit, keys), h, i),
+                turned: domain_state::token::grab(full_for(h, limit, token_ids), h, i),
             }
         }
         Ask::Inhibit => {
-            let h = domain_tables::tokens::state_at(modes, values, at);
+            let h = domain_tables::tokens::state_at(token_states, token_values, at);
             Outcome {
                 kind: Confirm::Inhibit,
                 before: h,
-                turned: domain_state::token::inhibit(full_for(h, limit, keys), h, i),
+                turned: domain_state::token::inhibit(full_for(h, limit, token_ids), h, i),
             }
         }
         Ask::Release => {
-            let h = domain_tables::tokens::state_at(modes, values, at);
+            let h = domain_tables::tokens::state_at(token_states, token_values, at);
             Outcome {
                 kind: Confirm::Release,
                 before: h,
@@ -193,7 +193,7 @@ fn attempt(
             }
         }
         _ => {
-            let h = domain_tables::tokens::state_at(modes, values, at);
+            let h = domain_tables::tokens::state_at(token_states, token_values, at);
             Outcome {
                 kind: Confirm::Give,
                 before: h,
@@ -205,24 +205,24 @@ fn attempt(
 
 // Token k, which was in state h, is then in another; a giver is told the result.
 fn concluded(
-    names: &[u16; 64],
-    homes: &[u8; 64],
+    user_ids: &[u16; 64],
+    user_links: &[u8; 64],
     result: u8,
     k: u16,
     h: Holding,
     next: Holding,
 ) -> Deed
-    ensures { λ r. ⌜ ((ts : Tokens) → Does ts k r (done (set-token ts k next) (informed (users-of (now (names .entry)) (now (homes .entry))) result k h next))) ⌝ }
+    ensures { λ r. ⌜ ((ts : Tokens) → Does ts k r (done (set-token ts k next) (informed (users-of (now («user_ids» .entry)) (now («user_links» .entry))) result k h next))) ⌝ }
 {
     if let Holding::Giving(g, _) = h {
         return Deed {
             fate: Fate::Turns(domain_state::token::new_token(next)),
             told: true,
-            q: domain_tables::users::link_at(homes, g),
+            q: domain_tables::users::link_at(user_links, g),
             m: confirm(
                 Confirm::Give,
                 result,
-                domain_tables::users::name_at(names, g),
+                domain_tables::users::name_at(user_ids, g),
                 k,
                 next,
                 g,
@@ -234,8 +234,8 @@ fn concluded(
 
 // TVrs by the user at place i for token k in state h: any result but 0 declines.
 fn answered(
-    names: &[u16; 64],
-    homes: &[u8; 64],
+    user_ids: &[u16; 64],
+    user_links: &[u8; 64],
     p: u8,
     u: u16,
     i: u8,
@@ -243,22 +243,22 @@ fn answered(
     h: Holding,
     result: u8,
 ) -> Deed
-    ensures { λ r. ⌜ ((ts : Tokens) → h ≡ state ts k → attached (users-of (now (names .entry)) (now (homes .entry))) p u ≡ At i → Does ts k r (answerOf (users-of (now (names .entry)) (now (homes .entry))) ts p result u k)) ⌝ }
+    ensures { λ r. ⌜ ((ts : Tokens) → h ≡ state ts k → attached (users-of (now («user_ids» .entry)) (now («user_links» .entry))) p u ≡ At i → Does ts k r (answerOf (users-of (now («user_ids» .entry)) (now («user_links» .entry))) ts p result u k)) ⌝ }
 {
     if domain_state::token::is_offered(h, i) {
         let next = domain_state::token::answered(result == 0, h, i);
-        return concluded(names, homes, result, k, h, next);
+        return concluded(user_ids, user_links, result, k, h, next);
     }
     quiet(Fate::Ignored)
 }
 
 // What comes of a request by u on p, at place i, for token k, which stands at a place or nowhere.
 pub fn decide(
-    names: &[u16; 64],
-    homes: &[u8; 64],
-    keys: &[u16; 64],
-    modes: &[u8; 64],
-    values: &[u64; 64],
+    user_ids: &[u16; 64],
+    user_links: &[u8; 64],
+    token_ids: &[u16; 64],
+    token_states: &[u8; 64],
+    token_values: &[u64; 64],
     limit: u8,
     p: u8,
     u: u16,
@@ -267,21 +267,21 @@ pub fn decide(
     at: usize,
     ask: Ask,
 ) -> Deed
-    ensures { λ r. ⌜ ((ts : Tokens) → standing (now (modes .entry)) (now (values .entry)) at ≡ state ts k → attached (users-of (now (names .entry)) (now (homes .entry))) p u ≡ At i
-        → Does ts k r (asked ask (at-limit limit (now (keys .entry))) (users-of (now (names .entry)) (now (homes .entry))) ts p u k)) ⌝ }
+    ensures { λ r. ⌜ ((ts : Tokens) → standing (now («token_states» .entry)) (now («token_values» .entry)) at ≡ state ts k → attached (users-of (now («user_ids» .entry)) (now («user_links» .entry))) p u ≡ At i
+        → Does ts k r (asked ask (at-limit limit (now («token_ids» .entry))) (users-of (now («user_ids» .entry)) (now («user_links» .entry))) ts p u k)) ⌝ }
 {
     if let Ask::Answer(result) = ask {
-        let h = domain_tables::tokens::state_at(modes, values, at);
-        return answered(names, homes, p, u, i, k, h, result);
+        let h = domain_tables::tokens::state_at(token_states, token_values, at);
+        return answered(user_ids, user_links, p, u, i, k, h, result);
     }
     if let Ask::Offer(recipient) = ask {
-        let h = domain_tables::tokens::state_at(modes, values, at);
-        let j = recipient_at(names, h, i, recipient);
+        let h = domain_tables::tokens::state_at(token_states, token_values, at);
+        let j = recipient_at(user_ids, h, i, recipient);
         if j < 64 {
-            return given(homes, u, i, k, j as u8, recipient);
+            return given(user_links, u, i, k, j as u8, recipient);
         }
     }
-    let t = attempt(keys, modes, values, at, limit, i, ask);
+    let t = attempt(token_ids, token_states, token_values, at, limit, i, ask);
     let kind = t.kind;
     let before = t.before;
     let what = t.turned;

@@ -31,18 +31,18 @@ const ROOM: usize = 11;
 
 // What becomes of token k, which stands at a place or nowhere, is stored.
 fn keep(
-    keys: &mut [u16; 64],
-    modes: &mut [u8; 64],
-    values: &mut [u64; 64],
+    token_ids: &mut [u16; 64],
+    token_states: &mut [u8; 64],
+    token_values: &mut [u64; 64],
     at: usize,
     k: u16,
     fate: Fate,
 )
-    ensures { λ _. ⌜ (place 64 at ≡ find (now (keys .entry)) k → tokens-of (now (keys .exit)) (now (modes .exit)) (now (values .exit))
-        ≡ fated (tokens-of (now (keys .entry)) (now (modes .entry)) (now (values .entry))) k fate) ⌝ }
+    ensures { λ _. ⌜ (place 64 at ≡ find (now («token_ids» .entry)) k → tokens-of (now («token_ids» .exit)) (now («token_states» .exit)) (now («token_values» .exit))
+        ≡ fated (tokens-of (now («token_ids» .entry)) (now («token_states» .entry)) (now («token_values» .entry))) k fate) ⌝ }
 {
     if let Fate::Turns(t) = fate {
-        domain_tables::tokens::set_at(keys, modes, values, at, k, t);
+        domain_tables::tokens::set_at(token_ids, token_states, token_values, at, k, t);
     }
 }
 
@@ -70,18 +70,18 @@ fn deliver(d: Deed, out: &mut [u8]) -> Answer
 
 // A deed about token k is done: it is sent, or there is no room for it, and stored.
 fn carry(
-    keys: &mut [u16; 64],
-    modes: &mut [u8; 64],
-    values: &mut [u64; 64],
+    token_ids: &mut [u16; 64],
+    token_states: &mut [u8; 64],
+    token_values: &mut [u64; 64],
     at: usize,
     k: u16,
     d: Deed,
     out: &mut [u8],
 ) -> Answer
-    requires { ⌜ place 64 at ≡ find (now keys) k ⌝ }
-    ensures { λ r. ⌜ ((e : Effect Tokens) → Does (tokens-of (now (keys .entry)) (now (modes .entry)) (now (values .entry))) k d e
-        → answered r (tokens-of (now (keys .exit)) (now (modes .exit)) (now (values .exit))) (now (out .exit))
-        ≡ settle (tokens-of (now (keys .entry)) (now (modes .entry)) (now (values .entry))) e (now (out .entry))) ⌝ }
+    requires { ⌜ place 64 at ≡ find (now «token_ids») k ⌝ }
+    ensures { λ r. ⌜ ((e : Effect Tokens) → Does (tokens-of (now («token_ids» .entry)) (now («token_states» .entry)) (now («token_values» .entry))) k d e
+        → answered r (tokens-of (now («token_ids» .exit)) (now («token_states» .exit)) (now («token_values» .exit))) (now (out .exit))
+        ≡ settle (tokens-of (now («token_ids» .entry)) (now («token_states» .entry)) (now («token_values» .entry))) e (now (out .entry))) ⌝ }
 {
     let fate = d.fate;
     if let Fate::Ignored = fate {
@@ -95,14 +95,14 @@ fn carry(
     if domain_state::numbers::reply_number(reply) == 9 {
         return a;
     }
-    keep(keys, modes, values, at, k, fate);
+    keep(token_ids, token_states, token_values, at, k, fate);
     a
 }
 
 // TTrq by u on p, at place i, for token k in state h, or TPrq: nothing is stored.
 fn inquire(
-    names: &[u16; 64],
-    homes: &[u8; 64],
+    user_ids: &[u16; 64],
+    user_links: &[u8; 64],
     p: u8,
     u: u16,
     i: u8,
@@ -111,8 +111,8 @@ fn inquire(
     tests: bool,
     out: &mut [u8],
 ) -> Answer
-    ensures { λ r. ⌜ ((ts : Tokens) → h ≡ state ts k → attached (users-of (now (names .entry)) (now (homes .entry))) p u ≡ At i
-        → answered r ts (now (out .exit)) ≡ settle ts ((if tests then testOf else pleaseOf) (users-of (now (names .entry)) (now (homes .entry))) ts p u k) (now (out .entry))) ⌝ }
+    ensures { λ r. ⌜ ((ts : Tokens) → h ≡ state ts k → attached (users-of (now («user_ids» .entry)) (now («user_links» .entry))) p u ≡ At i
+        → answered r ts (now (out .exit)) ≡ settle ts ((if tests then testOf else pleaseOf) (users-of (now («user_ids» .entry)) (now («user_links» .entry))) ts p u k) (now (out .entry))) ⌝ }
 {
     if tests {
         if out.len() < 10 {
@@ -125,7 +125,7 @@ fn inquire(
         let m = out_messages::test_confirm(u, k, status);
         return send(out, p, &m);
     }
-    let mask = domain_tables::users::hosts(names, homes, domain_state::token::party(h));
+    let mask = domain_tables::users::hosts(user_ids, user_links, domain_state::token::party(h));
     let m = out_messages::please_indication(u, k);
     tell(out, mask, &m)
 }
@@ -180,11 +180,11 @@ fn ask_of(number: u32, more: u16) -> Ask
 // Each of these requests, by its number: the user and the token are sought, then it is told apart.
 pub fn request(
     limits: Limits,
-    names: &[u16; 64],
-    homes: &[u8; 64],
-    keys: &mut [u16; 64],
-    modes: &mut [u8; 64],
-    values: &mut [u64; 64],
+    user_ids: &[u16; 64],
+    user_links: &[u8; 64],
+    token_ids: &mut [u16; 64],
+    token_states: &mut [u8; 64],
+    token_values: &mut [u64; 64],
     p: u8,
     number: u32,
     u: u16,
@@ -192,27 +192,40 @@ pub fn request(
     more: u16,
     out: &mut [u8],
 ) -> Answer
-    ensures { λ r. ⌜ ((m : ℕ) (cs : Channels) (new : ℕ) → answered r (joined limits m (users-of (now (names .entry)) (now (homes .entry))) cs
-        (tokens-of (now (keys .exit)) (now (modes .exit)) (now (values .exit)))) (now (out .exit))
-        ≡ settle (joined limits m (users-of (now (names .entry)) (now (homes .entry))) cs (tokens-of (now (keys .entry)) (now (modes .entry)) (now (values .entry))))
-        (act new (joined limits m (users-of (now (names .entry)) (now (homes .entry))) cs (tokens-of (now (keys .entry)) (now (modes .entry)) (now (values .entry))))
+    ensures { λ r. ⌜ ((m : ℕ) (cs : Channels) (new : ℕ) → answered r (joined limits m (users-of (now («user_ids» .entry)) (now («user_links» .entry))) cs
+        (tokens-of (now («token_ids» .exit)) (now («token_states» .exit)) (now («token_values» .exit)))) (now (out .exit))
+        ≡ settle (joined limits m (users-of (now («user_ids» .entry)) (now («user_links» .entry))) cs (tokens-of (now («token_ids» .entry)) (now («token_states» .entry)) (now («token_values» .entry))))
+        (act new (joined limits m (users-of (now («user_ids» .entry)) (now («user_links» .entry))) cs (tokens-of (now («token_ids» .entry)) (now («token_states» .entry)) (now («token_values» .entry))))
         p (token-request number u k more)) (now (out .entry))) ⌝ }
 {
-    let i = serve_token_rules::asker(names, homes, p, u);
+    let i = serve_token_rules::asker(user_ids, user_links, p, u);
     if i == NOWHERE {
         return Answer {
             reply: Reply::Ignored,
             sent: 0,
         };
     }
-    let at = cols_find::find(keys, k);
+    let at = cols_find::find(token_ids, k);
     let tests = 40 < number;
     if tests | (number == 37) {
-        let h = domain_tables::tokens::state_at(modes, values, at);
-        return inquire(names, homes, p, u, i, k, h, tests, out);
+        let h = domain_tables::tokens::state_at(token_states, token_values, at);
+        return inquire(user_ids, user_links, p, u, i, k, h, tests, out);
     }
     let most = limits.tokens;
     let ask = ask_of(number, more);
-    let d = serve_token_rules::decide(names, homes, keys, modes, values, most, p, u, i, k, at, ask);
-    carry(keys, modes, values, at, k, d, out)
+    let d = serve_token_rules::decide(
+        user_ids,
+        user_links,
+        token_ids,
+        token_states,
+        token_values,
+        most,
+        p,
+        u,
+        i,
+        k,
+        at,
+        ask,
+    );
+    carry(token_ids, token_states, token_values, at, k, d, out)
 }

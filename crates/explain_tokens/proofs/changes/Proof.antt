@@ -15,7 +15,7 @@ abbrev μ-loop : tie.MeasureT-loop
 loop-holds : tie.Need-loop-holds Inv-loop μ-loop
 loop-holds c =
     let start = c .before .before .before .before .before .before .before .before .before in
-    changing-start (start .args .old-keys .now) (start .args .old-modes .now) (start .args .old-values .now) (start .args .keys .now) (start .args .modes .now) (start .args .values .now) _ refl refl
+    changing-start (start .args .old-token-ids .now) (start .args .old-token-states .now) (start .args .old-token-values .now) (start .args .token-ids .now) (start .args .token-states .now) (start .args .token-values .now) _ refl refl
     (record { keys₀ = search needs; modes₀ = search needs; values₀ = search needs; keys = search needs; modes = search needs; values = search needs })
 
 mul-was : tie.Need-mul-was Inv-loop μ-loop
@@ -63,12 +63,12 @@ loop-less c = search needs
 loop-again : tie.Need-loop-again Inv-loop μ-loop
 loop-again c =
     let start = c .before .before .before .before .before .before .before .before .before .before .before .before .before .before .before .before .before .before .before in
-    changing-more (start .args .old-keys .now) (start .args .old-modes .now) (start .args .old-values .now) (start .args .keys .now) (start .args .modes .now) (start .args .values .now) _ _ _ _ _ (c .before .before .before .before .before .before .before .before .before .loop .inv) (c .before .before .before .took .result) _ _ _ (c .before .before .picked .result) (c .picked2 .result) (c .before .before .before .before .before .before .before .before .loop-test .taken) (c .before .before .before .took .ensures) (c .before .before .picked .ensures) (c .picked2 .ensures)
+    changing-more (start .args .old-token-ids .now) (start .args .old-token-states .now) (start .args .old-token-values .now) (start .args .token-ids .now) (start .args .token-states .now) (start .args .token-values .now) _ _ _ _ _ (c .before .before .before .before .before .before .before .before .before .loop .inv) (c .before .before .before .took .result) _ _ _ (c .before .before .picked .result) (c .picked2 .result) (c .before .before .before .before .before .before .before .before .loop-test .taken) (c .before .before .before .took .ensures) (c .before .before .picked .ensures) (c .picked2 .ensures)
 
 returns : tie.Need-returns Inv-loop μ-loop
 returns c =
     let start = c .before .before .before .before .before .before .before .before .before .before .before in
-    changing-all (start .args .old-keys .now) (start .args .old-modes .now) (start .args .old-values .now) (start .args .keys .now) (start .args .modes .now) (start .args .values .now) _ _ _ _ _ (c .before .loop .inv) (c .loop-test .left)
+    changing-all (start .args .old-token-ids .now) (start .args .old-token-states .now) (start .args .old-token-values .now) (start .args .token-ids .now) (start .args .token-states .now) (start .args .token-values .now) _ _ _ _ _ (c .before .loop .inv) (c .loop-test .left)
 
 pub changes-spec : {M : Type 1} → statement M
 changes-spec =

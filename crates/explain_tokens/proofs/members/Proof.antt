@@ -47,10 +47,10 @@ loop-less c = search needs
 loop-again : tie.Need-loop-again Inv-loop μ-loop
 loop-again c =
     let start = c .before .before .before .before .before .before in
-    picked-more (has (start .args .us)) (start .args .names .now) (c .picked .result) (search needs) (c .before .before .before .before .loop .inv) (c .before .before .before .loop-test .taken) (rw (← c .before .before .has .ensures) (c .picked .ensures))
+    picked-more (has (start .args .us)) (start .args .user-ids .now) (c .picked .result) (search needs) (c .before .before .before .before .loop .inv) (c .before .before .before .loop-test .taken) (rw (← c .before .before .has .ensures) (c .picked .ensures))
 
 returns : tie.Need-returns Inv-loop μ-loop
-returns c = picked-all (has (c .before .before .before .args .us)) (c .before .before .before .args .names .now) (search needs) (c .before .loop .inv) (c .loop-test .left)
+returns c = picked-all (has (c .before .before .before .args .us)) (c .before .before .before .args .user-ids .now) (search needs) (c .before .loop .inv) (c .loop-test .left)
 
 pub members-spec : {M : Type 1} → statement M
 members-spec =

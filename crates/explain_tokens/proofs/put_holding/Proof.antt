@@ -76,35 +76,35 @@ same-length c = search needs
 
 returns : tie.Need-returns
 unfolding ascii holdingTexts
-returns c = says-as (c .before .before .say .ensures) (holding-is (c .before .before .before .before .before .before .before .before .args .names .now) (c .before .before .before .before .before .before .before .before .args .h) Free (search needs))
+returns c = says-as (c .before .before .say .ensures) (holding-is (c .before .before .before .before .before .before .before .before .args .user-ids .now) (c .before .before .before .before .before .before .before .before .args .h) Free (search needs))
 
 same-length-2 : tie.Need-same-length-2
 same-length-2 c = search needs
 
 returns-2 : tie.Need-returns-2
 unfolding ascii holdingTexts
-returns-2 c = says-as (c .before .before .put-user .ensures) (holding-is (c .before .before .before .before .before .before .before .before .before .args .names .now) (c .before .before .before .before .before .before .before .before .before .args .h) _ (c .before .before .before .before .before .before .h .given .1))
+returns-2 c = says-as (c .before .before .put-user .ensures) (holding-is (c .before .before .before .before .before .before .before .before .before .args .user-ids .now) (c .before .before .before .before .before .before .before .before .before .args .h) _ (c .before .before .before .before .before .before .h .given .1))
 
 same-length-3 : tie.Need-same-length-3
 same-length-3 c = search needs
 
 returns-3 : tie.Need-returns-3
 unfolding ascii holdingTexts
-returns-3 c = says-as (says-then (c .before .before .before .before .before .before .before .before .say2 .ensures) (says-as (c .before .before .put-rising .ensures) (ap (λ l. over idTexts (inOrder l)) (c .before .before .before .before .members .ensures)))) (holding-is (c .before .before .before .before .before .before .before .before .before .before .before .before .before .before .before .args .names .now) (c .before .before .before .before .before .before .before .before .before .before .before .before .before .before .before .args .h) _ (c .before .before .before .before .before .before .before .before .before .before .before .before .h2 .given .1))
+returns-3 c = says-as (says-then (c .before .before .before .before .before .before .before .before .say2 .ensures) (says-as (c .before .before .put-rising .ensures) (ap (λ l. over idTexts (inOrder l)) (c .before .before .before .before .members .ensures)))) (holding-is (c .before .before .before .before .before .before .before .before .before .before .before .before .before .before .before .args .user-ids .now) (c .before .before .before .before .before .before .before .before .before .before .before .before .before .before .before .args .h) _ (c .before .before .before .before .before .before .before .before .before .before .before .before .h2 .given .1))
 
 same-length-4 : tie.Need-same-length-4
 same-length-4 c = search needs
 
 returns-4 : tie.Need-returns-4
 unfolding ascii holdingTexts
-returns-4 c = says-as (says-then (c .before .before .before .before .before .before .before .put-user2 .ensures) (c .before .before .put-user3 .ensures)) (holding-is (c .before .before .before .before .before .before .before .before .before .before .before .before .before .before .args .names .now) (c .before .before .before .before .before .before .before .before .before .before .before .before .before .before .args .h) _ (c .before .before .before .before .before .before .before .before .before .before .before .h3 .given .1))
+returns-4 c = says-as (says-then (c .before .before .before .before .before .before .before .put-user2 .ensures) (c .before .before .put-user3 .ensures)) (holding-is (c .before .before .before .before .before .before .before .before .before .before .before .before .before .before .args .user-ids .now) (c .before .before .before .before .before .before .before .before .before .before .before .before .before .before .args .h) _ (c .before .before .before .before .before .before .before .before .before .before .before .h3 .given .1))
 
 same-length-5 : tie.Need-same-length-5
 same-length-5 c = search needs
 
 returns-5 : tie.Need-returns-5
 unfolding ascii holdingTexts
-returns-5 c = says-as (c .before .before .put-user4 .ensures) (holding-is (c .before .before .before .before .before .before .before .before .before .args .names .now) (c .before .before .before .before .before .before .before .before .before .args .h) _ (c .before .before .before .before .before .before .h4 .given .1))
+returns-5 c = says-as (c .before .before .put-user4 .ensures) (holding-is (c .before .before .before .before .before .before .before .before .before .args .user-ids .now) (c .before .before .before .before .before .before .before .before .before .args .h) _ (c .before .before .before .before .before .before .h4 .given .1))
 
 pub put-holding-spec : {M : Type 1} → statement M
 put-holding-spec =

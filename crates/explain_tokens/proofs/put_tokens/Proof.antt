@@ -42,7 +42,7 @@ loop-less c = search needs
 
 loop-again : tie.Need-loop-again Inv-loop μ-loop
 unfolding stateTexts
-loop-again c = rising-more (c .before .before .before .before .before .before .next .result) (c .before .before .before .before .before .before .before .before .loop .inv) (c .before .before .before .before .before .before .next .ensures) (c .before .before .before .before .before .if1 .left) (c .before .before .before .before .before .before .before .loop-test .taken) (c .before .before .put-token .kept .0) (says-as (c .before .before .put-token .ensures) (ap (λ h. tokenTexts (c .before .before .before .before .before .before .before .before .before .before .before .args .names .now) (c .before .before .before .before .before .before .next .result) h) (c .before .before .before .state .ensures)))
+loop-again c = rising-more (c .before .before .before .before .before .before .next .result) (c .before .before .before .before .before .before .before .before .loop .inv) (c .before .before .before .before .before .before .next .ensures) (c .before .before .before .before .before .if1 .left) (c .before .before .before .before .before .before .before .loop-test .taken) (c .before .before .put-token .kept .0) (says-as (c .before .before .put-token .ensures) (ap (λ h. tokenTexts (c .before .before .before .before .before .before .before .before .before .before .before .args .user-ids .now) (c .before .before .before .before .before .before .next .result) h) (c .before .before .before .state .ensures)))
 
 same-length-2 : tie.Need-same-length-2 Inv-loop μ-loop
 same-length-2 c = c .before .loop .inv .size

@@ -35,20 +35,20 @@ mul-changed-2 c = search needs
 element-copy-out-changed-3 : tie.Need-element-copy-out-changed-3
 element-copy-out-changed-3 c = search needs
 
-mul-old-keys : tie.Need-mul-old-keys
-mul-old-keys c = search needs
+mul-old-token-ids : tie.Need-mul-old-token-ids
+mul-old-token-ids c = search needs
 
-element-write-old-keys : tie.Need-element-write-old-keys
-element-write-old-keys c = search needs
+element-write-old-token-ids : tie.Need-element-write-old-token-ids
+element-write-old-token-ids c = search needs
 
-element-write-old-modes : tie.Need-element-write-old-modes
-element-write-old-modes c = search needs
+element-write-old-token-states : tie.Need-element-write-old-token-states
+element-write-old-token-states c = search needs
 
-mul-old-values : tie.Need-mul-old-values
-mul-old-values c = search needs
+mul-old-token-values : tie.Need-mul-old-token-values
+mul-old-token-values c = search needs
 
-element-write-old-values : tie.Need-element-write-old-values
-element-write-old-values c = search needs
+element-write-old-token-values : tie.Need-element-write-old-token-values
+element-write-old-token-values c = search needs
 
 returns : tie.Need-returns
 unfolding differ
@@ -68,9 +68,9 @@ took-spec =
     element-copy-out-changed-2
     mul-changed-2
     element-copy-out-changed-3
-    mul-old-keys
-    element-write-old-keys
-    element-write-old-modes
-    mul-old-values
-    element-write-old-values
+    mul-old-token-ids
+    element-write-old-token-ids
+    element-write-old-token-states
+    mul-old-token-values
+    element-write-old-token-values
     returns)

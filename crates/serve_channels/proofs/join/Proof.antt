@@ -27,7 +27,7 @@ same-length : tie.Need-same-length
 same-length c = search needs
 
 returns-2 : tie.Need-returns-2
-returns-2 c = join-found _ _ _ _ _ _ _ _ _ (placed _ _ _ (c .before .before .before .before .before .before .before .before .before .before .before .before .before .initiator .ensures) (c .before .before .before .before .before .before .before .before .before .before .before .before .if1 .left)) _ _ (find-at _ _ _ (c .before .before .before .before .before .before .before .before .before .find .ensures) (search needs)) (c .before .before .join-at .ensures (c .before .before .before .before .before .before .before .before .before .before .before .before .before .before .before .args .ids .now))
+returns-2 c = join-found _ _ _ _ _ _ _ _ _ (placed _ _ _ (c .before .before .before .before .before .before .before .before .before .before .before .before .before .initiator .ensures) (c .before .before .before .before .before .before .before .before .before .before .before .before .if1 .left)) _ _ (find-at _ _ _ (c .before .before .before .before .before .before .before .before .before .find .ensures) (search needs)) (c .before .before .join-at .ensures (c .before .before .before .before .before .before .before .before .before .before .before .before .before .before .before .args .channel-ids .now))
 
 join-new-requires : tie.Need-join-new-requires
 join-new-requires c κs = tt

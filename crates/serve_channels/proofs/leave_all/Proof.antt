@@ -29,7 +29,7 @@ loop-holds c =
     let a = c .before .before .before .before .before .before .before .before .before .before .args in
     let f = left (a .p) (a .listed .now) in
     let n = c .before .before .before .width .ensures in
-    (n .0, sweeps-next no-channel (anywhere f) (sweeps-start no-channel (anywhere f) 128 (a .ids .now) (channel-cells (a .roles .now) (a .chairs .now) (a .guests .now) (a .marks .now)) (n .1) (n .2)) _ (c .used-from .ensures) .1)
+    (n .0, sweeps-next no-channel (anywhere f) (sweeps-start no-channel (anywhere f) 128 (a .channel-ids .now) (channel-cells (a .channel-kinds .now) (a .managers .now) (a .admitted .now) (a .joined .now)) (n .1) (n .2)) _ (c .used-from .ensures) .1)
 
 leave-at-requires : tie.Need-leave-at-requires Inv-loop μ-loop
 leave-at-requires c κs = search needs

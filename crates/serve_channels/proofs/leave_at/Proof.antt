@@ -40,7 +40,7 @@ returns-2 c =
     let found = c .before .before .before .before .before .before .before .before .before .channel-at in
     let less = c .before .before .before .before .before .before .before .before .without-link in
     let ends = c .before .before .before .before .before .before .before .ends in
-    channel-ends f (a .j) (a .ids .now) (a .roles .now) (a .chairs .now) (a .guests .now) (a .marks .now) _ _ _ _ _ (c .before .before .before .before .before .before .before .before .before .before .before .before .before .before .before .before .if1 .left)
+    channel-ends f (a .j) (a .channel-ids .now) (a .channel-kinds .now) (a .managers .now) (a .admitted .now) (a .joined .now) _ _ _ _ _ (c .before .before .before .before .before .before .before .before .before .before .before .before .before .before .before .before .if1 .left)
     (left-ends (a .p) (a .listed .now) _ _ (sym (c .before .before .before .before .before .before .before .before .before .before .before .before .before .before .before .member .ensures) ∙ c .before .before .before .before .before .before .before .before .before .before .before .before .before .before .if2 .taken) (found .result) (found .ensures) (less .result) (less .ensures) (ends .result) (ends .ensures) (c .before .before .before .before .before .before .if3 .taken))
     (c .end-channel .ensures)
 
@@ -54,7 +54,7 @@ returns-3 c =
     let found = c .before .before .before .before .before .before .before .before .channel-at in
     let less = c .before .before .before .before .before .before .before .without-link in
     let ends = c .before .before .before .before .before .before .ends in
-    channel-stays f (a .j) (a .ids .now) (a .roles .now) (a .chairs .now) (a .guests .now) (a .marks .now) (a .ids .now) _ _ _ _ (c .before .before .before .before .before .before .before .before .before .before .before .before .before .before .before .if1 .left) _
+    channel-stays f (a .j) (a .channel-ids .now) (a .channel-kinds .now) (a .managers .now) (a .admitted .now) (a .joined .now) (a .channel-ids .now) _ _ _ _ (c .before .before .before .before .before .before .before .before .before .before .before .before .before .before .before .if1 .left) _
     (left-stays (a .p) (a .listed .now) _ _ (sym (c .before .before .before .before .before .before .before .before .before .before .before .before .before .before .member .ensures) ∙ c .before .before .before .before .before .before .before .before .before .before .before .before .before .if2 .taken) (found .result) (found .ensures) (less .result) (less .ensures) (ends .result) (ends .ensures) (c .before .before .before .before .before .if3 .left))
     (c .set-channel .ensures)
 

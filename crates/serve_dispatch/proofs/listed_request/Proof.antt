@@ -101,8 +101,8 @@ returns-4 c = λ l.
     let d = c .before .before .before .before .before .before .before .before .before .before .before .before .before .before .before .before in
     let a = d .before .before .args in
     let r = d .match .rest in
-    rw (leaves (grant (channels-of (a .ids .now) (a .roles .now) (a .chairs .now) (a .guests .now) (a .marks .now)))
-    (domain-of l (a .links .now) (a .names .now) (a .homes .now) (a .ids .now) (a .roles .now) (a .chairs .now) (a .guests .now) (a .marks .now) (a .keys .now) (a .modes .now) (a .values .now))
+    rw (leaves (grant (channels-of (a .channel-ids .now) (a .channel-kinds .now) (a .managers .now) (a .admitted .now) (a .joined .now)))
+    (domain-of l (a .links .now) (a .user-ids .now) (a .user-links .now) (a .channel-ids .now) (a .channel-kinds .now) (a .managers .now) (a .admitted .now) (a .joined .now) (a .token-ids .now) (a .token-states .now) (a .token-values .now))
     (a .p) (a .number) (a .first) (a .second) (take (a .count) (a .listed .now)) (r .0 .0 .1) (r .0 .1) (λ e. r .1 (inl e)) (λ e. r .1 (inr e)))
     (c .before .before .depart .ensures l)
 

@@ -31,15 +31,15 @@ with-seat-requires c κs = search needs
 
 returns : tie.Need-returns
 returns c = let a = c .before .before .before .before .before .before .before .before .args in
-    adds-new (users-of (a .names .now) (a .homes .now)) (a .p) (a .u) (a .list .now) (a .t) (c .before .before .before .before .attached .result) (c .before .before .before .before .attached .ensures .0) (omega arith) (sym (c .before .before .has .ensures) ∙ not-true _ (c .before .if2 .taken)) (search needs) (search needs) _ (c .with-seat .ensures)
+    adds-new (users-of (a .user-ids .now) (a .user-links .now)) (a .p) (a .u) (a .list .now) (a .t) (c .before .before .before .before .attached .result) (c .before .before .before .before .attached .ensures .0) (omega arith) (sym (c .before .before .has .ensures) ∙ not-true _ (c .before .if2 .taken)) (search needs) (search needs) _ (c .with-seat .ensures)
 
 returns-2 : tie.Need-returns-2
 returns-2 c = let a = c .before .before .before .before .before .before .before .args in
-    adds-again (users-of (a .names .now) (a .homes .now)) (a .p) (a .u) (a .list .now) (a .t) (c .before .before .before .attached .result) (c .before .before .before .attached .ensures .0) (omega arith) (sym (c .before .has .ensures) ∙ not-false _ (c .if2 .left))
+    adds-again (users-of (a .user-ids .now) (a .user-links .now)) (a .p) (a .u) (a .list .now) (a .t) (c .before .before .before .attached .result) (c .before .before .before .attached .ensures .0) (omega arith) (sym (c .before .has .ensures) ∙ not-false _ (c .if2 .left))
 
 returns-3 : tie.Need-returns-3
 returns-3 c = let a = c .before .before .before .before .before .args in
-    adds-nobody (users-of (a .names .now) (a .homes .now)) (a .p) (a .u) (a .list .now) (a .t) (c .before .attached .result) (c .before .attached .ensures .0) (search needs) (omega arith)
+    adds-nobody (users-of (a .user-ids .now) (a .user-links .now)) (a .p) (a .u) (a .list .now) (a .t) (c .before .attached .result) (c .before .attached .ensures .0) (search needs) (omega arith)
 
 pub add-leaver-spec : {M : Type 1} → statement M
 add-leaver-spec =

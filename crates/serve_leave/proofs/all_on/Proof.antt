@@ -15,7 +15,7 @@ abbrev μ-loop : tie.MeasureT-loop
 μ-loop names homes p list₀ all t₀ low₀ left₀ list t low left = left
 
 loop-holds : tie.Need-loop-holds Inv-loop μ-loop
-loop-holds c = let a = c .before .before .args in gather-start (a .names .now) (a .homes .now) (a .p) (a .list .now) _ refl (search needs) (search needs)
+loop-holds c = let a = c .before .before .args in gather-start (a .user-ids .now) (a .user-links .now) (a .p) (a .list .now) _ refl (search needs) (search needs)
 
 next-where-requires : tie.Need-next-where-requires Inv-loop μ-loop
 next-where-requires c κs = search needs

@@ -16,7 +16,7 @@ returns : tie.Need-returns
 returns c =
     let a = c .before .before .before .before .before .before .before .args in
     let both = none-listed (c .before .before .who-leaves .result .count) (a .closes) (c .if1 .taken) in λ l.
-    depart-nobody (domain-of l (a .links .now) (a .names .now) (a .homes .now) (a .ids .now) (a .roles .now) (a .chairs .now) (a .guests .now) (a .marks .now) (a .keys .now) (a .modes .now) (a .values .now))
+    depart-nobody (domain-of l (a .links .now) (a .user-ids .now) (a .user-links .now) (a .channel-ids .now) (a .channel-kinds .now) (a .managers .now) (a .admitted .now) (a .joined .now) (a .token-ids .now) (a .token-states .now) (a .token-values .now))
     (a .p) (a .reason % 8) (take (a .count) (a .list .now)) (a .out .now) (a .closes) (both .1) (leaves-none (c .before .before .who-leaves .ensures) (both .0))
 
 remaining-requires : tie.Need-remaining-requires
@@ -37,7 +37,7 @@ returns-2 c =
     let w = c .before .before .before .before .before .before .before .before .before .before .before .before .before .before .before .before .before .before .before .before .before .who-leaves .ensures in
     let t = c .before .before .before .before .before .before .before .before .before .before .before .before .before .before .before .before .before .before .before .if1 .left in λ l.
     c .before .before .leave .ensures l (a .p) _ w
-    ∙ depart-some (domain-of l (a .links .now) (a .names .now) (a .homes .now) (a .ids .now) (a .roles .now) (a .chairs .now) (a .guests .now) (a .marks .now) (a .keys .now) (a .modes .now) (a .values .now))
+    ∙ depart-some (domain-of l (a .links .now) (a .user-ids .now) (a .user-links .now) (a .channel-ids .now) (a .channel-kinds .now) (a .managers .now) (a .admitted .now) (a .joined .now) (a .token-ids .now) (a .token-states .now) (a .token-values .now))
     (a .p) (a .reason % 8) (take (a .count) (a .list .now)) (a .out .now) (a .closes) _ _ (c .before .before .before .before .before .before .before .before .before .before .before .before .before .before .before .before .before .remaining .ensures) (c .before .before .before .before .before .before .before .before .before .before .before .before .before .before .before .before .told .ensures)
     (λ e. leaves-some w (some-listed _ (a .closes) t e))
 

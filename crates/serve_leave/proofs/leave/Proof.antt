@@ -20,8 +20,8 @@ returns : tie.Need-returns
 returns c =
     let a = c .before .before .before .before .before .before .before .before .before .before .before .before .before .before .before .before .before .before .args in
     let s = c .before .before .before .say in λ l p us h.
-    rw (s .ensures .1 (omega arith)) (leave-full l (a .links .now) (users-of (a .names .now) (a .homes .now)) (channels-of (a .ids .now) (a .roles .now) (a .chairs .now) (a .guests .now) (a .marks .now))
-    (tokens-of (a .keys .now) (a .modes .now) (a .values .now)) (a .live) (a .reason) (a .out .now) p us (a .list .now) (a .who) h
+    rw (s .ensures .1 (omega arith)) (leave-full l (a .links .now) (users-of (a .user-ids .now) (a .user-links .now)) (channels-of (a .channel-ids .now) (a .channel-kinds .now) (a .managers .now) (a .admitted .now) (a .joined .now))
+    (tokens-of (a .token-ids .now) (a .token-states .now) (a .token-values .now)) (a .live) (a .reason) (a .out .now) p us (a .list .now) (a .who) h
     (s .result) (s .ensures .0 l (a .links .now) .0) (omega arith))
 
 slice-aggregate-leave : tie.Need-slice-aggregate-leave
@@ -44,8 +44,8 @@ returns-2 c =
     let a = c .before .before .before .before .before .before .before .before .before .before .before .before .before .before .before .before .before .before .before .before .before .before .before .before .before .before .before .before .before .before .before .before .before .before .before .args in
     let s = c .before .before .before .before .before .before .before .before .before .before .before .before .before .before .before .before .before .before .before .before .say in
     let fits : s .result ≤ length (a .out .now) = omega (arith, c .before .before .before .before .before .before .before .before .before .before .before .before .before .before .before .before .before .if1 .left) in λ l p us h.
-    leave-done l (a .links .now) (users-of (a .names .now) (a .homes .now)) (channels-of (a .ids .now) (a .roles .now) (a .chairs .now) (a .guests .now) (a .marks .now))
-    (tokens-of (a .keys .now) (a .modes .now) (a .values .now)) (a .live) (a .reason) (a .out .now) p us (a .list .now) (a .who) h
+    leave-done l (a .links .now) (users-of (a .user-ids .now) (a .user-links .now)) (channels-of (a .channel-ids .now) (a .channel-kinds .now) (a .managers .now) (a .admitted .now) (a .joined .now))
+    (tokens-of (a .token-ids .now) (a .token-states .now) (a .token-values .now)) (a .live) (a .reason) (a .out .now) p us (a .list .now) (a .who) h
     (s .result) (omega (arith, c .before .before .before .before .before .before .before .before .before .before .before .before .before .before .before .before .before .before .before .before .before .before .before .before .before .before .before .before .before .before .before .before .n2 .given)) fits _ _ _ _ (c .before .before .before .before .leave2 .ensures) (c .before .before .before .before .before .before .before .leave .ensures) (c .leave3 .ensures)
     (s .ensures .0 l (a .links .now) .1 fits)
 

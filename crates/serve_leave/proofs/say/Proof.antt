@@ -34,7 +34,7 @@ loop-holds c =
       c .tried .ensures .0,
       search needs,
       λ l links. say-start 17200 (a .out .now) _ (c .tried .result) (c .tried .ensures)
-          (farewell-length (domain-of l links (a .names .now) (a .homes .now) (a .ids .now) (a .roles .now) (a .chairs .now) (a .guests .now) (a .marks .now) (a .keys .now) (a .modes .now) (a .values .now)) (a .gone) (a .live) (a .reason) (take (a .count) (a .list .now)) (search needs) few (search needs) (search needs)),
+          (farewell-length (domain-of l links (a .user-ids .now) (a .user-links .now) (a .channel-ids .now) (a .channel-kinds .now) (a .managers .now) (a .admitted .now) (a .joined .now) (a .token-ids .now) (a .token-states .now) (a .token-values .now)) (a .gone) (a .live) (a .reason) (take (a .count) (a .list .now)) (search needs) few (search needs) (search needs)),
     )
 
 slice-relend-prefix-farewell : tie.Need-slice-relend-prefix-farewell Inv-loop μ-loop

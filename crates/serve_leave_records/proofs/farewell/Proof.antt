@@ -18,7 +18,7 @@ same-length c = search needs
 
 returns : tie.Need-returns
 returns c = let a = c .before .before .before .before .before .before .before .before .before .before .before .before .before .args in λ l links.
-    farewell-put (domain-of l links (a .names .now) (a .homes .now) (a .ids .now) (a .roles .now) (a .chairs .now) (a .guests .now) (a .marks .now) (a .keys .now) (a .modes .now) (a .values .now)) (a .gone) (a .live) (a .reason) _
+    farewell-put (domain-of l links (a .user-ids .now) (a .user-links .now) (a .channel-ids .now) (a .channel-kinds .now) (a .managers .now) (a .admitted .now) (a .joined .now) (a .token-ids .now) (a .token-states .now) (a .token-values .now)) (a .gone) (a .live) (a .reason) _
     (c .before .before .before .before .before .before .before .before .before .before .put-first .ensures .0) (c .before .before .before .before .before .before .put-any-ends .ensures .0) (c .before .before .put-any-returns .ensures)
 
 pub farewell-spec : {M : Type 1} → statement M

@@ -25,10 +25,10 @@ cell-from-requires c κs = search needs
 loop-holds : tie.Need-loop-holds Inv-loop μ-loop
 loop-holds c =
     let a = c .before .before .before .args in
-    let i : length (a .ids .now) ≡ 128 = search needs in
-    let r : length (a .roles .now) ≡ 128 = search needs in
-    let z = nearest-cell (a .roles .now) 3 0 (c .cell-from .result) (c .cell-from .ensures) in
-    (i, r, marks-on (ends-there (a .gone) (a .roles .now) (a .chairs .now)) (a .ids .now) _ 0 (c .cell-from .result) (z .behind (omega arith)) (omega (arith, z .within)) (λ k h l. rw (z .passed k h l) refl) marks-start)
+    let i : length (a .channel-ids .now) ≡ 128 = search needs in
+    let r : length (a .channel-kinds .now) ≡ 128 = search needs in
+    let z = nearest-cell (a .channel-kinds .now) 3 0 (c .cell-from .result) (c .cell-from .ensures) in
+    (i, r, marks-on (ends-there (a .gone) (a .channel-kinds .now) (a .managers .now)) (a .channel-ids .now) _ 0 (c .cell-from .result) (z .behind (omega arith)) (omega (arith, z .within)) (λ k h l. rw (z .passed k h l) refl) marks-start)
 
 element-copy-out-ends : tie.Need-element-copy-out-ends Inv-loop μ-loop
 element-copy-out-ends c = search needs
@@ -61,25 +61,25 @@ loop-less : tie.Need-loop-less Inv-loop μ-loop
 loop-less c =
     let b = c .before .before .before .before .before .before .before .before .before .loop in
     let a = c .before .before .before .before .before .before .before .before .before .before .before .before .before .args in
-    omega (arith, nearest-cell (a .roles .now) 3 (b .j + 1) (c .cell-from2 .result) (c .cell-from2 .ensures) .behind (omega arith))
+    omega (arith, nearest-cell (a .channel-kinds .now) 3 (b .j + 1) (c .cell-from2 .result) (c .cell-from2 .ensures) .behind (omega arith))
 
 loop-again : tie.Need-loop-again Inv-loop μ-loop
 loop-again c =
     let b = c .before .before .before .before .before .before .before .before .before .loop in
     let a = c .before .before .before .before .before .before .before .before .before .before .before .before .before .args in
-    let test = ends-there (a .gone) (a .roles .now) (a .chairs .now) in
-    let x = getD (a .ids .now) (b .j) 0 in
+    let test = ends-there (a .gone) (a .channel-kinds .now) (a .managers .now) in
+    let x = getD (a .channel-ids .now) (b .j) 0 in
     let r = c .before .before .with-end .result in
-    let z = nearest-cell (a .roles .now) 3 (b .j + 1) (c .cell-from2 .result) (c .cell-from2 .ensures) in
+    let z = nearest-cell (a .channel-kinds .now) 3 (b .j + 1) (c .cell-from2 .result) (c .cell-from2 .ensures) in
     let is = c .before .before .before .if-ends .ensures ∙ ap (λ (t : Bool). if t then x else 0) (c .before .before .before .before .before .ends .ensures) in
-    let m = marks-turn test (a .ids .now) r (b .j) (c .before .before .before .if-ends .result) (omega arith) is (c .before .before .with-end .ensures _ (b .inv .2)) in
-    (b .inv .0, b .inv .1, marks-on test (a .ids .now) r (b .j + 1) (c .cell-from2 .result) (z .behind (omega arith)) (omega (arith, z .within)) (λ k h l. rw (z .passed k h l) refl) m)
+    let m = marks-turn test (a .channel-ids .now) r (b .j) (c .before .before .before .if-ends .result) (omega arith) is (c .before .before .with-end .ensures _ (b .inv .2)) in
+    (b .inv .0, b .inv .1, marks-on test (a .channel-ids .now) r (b .j + 1) (c .cell-from2 .result) (z .behind (omega arith)) (omega (arith, z .within)) (λ k h l. rw (z .passed k h l) refl) m)
 
 returns : tie.Need-returns Inv-loop μ-loop
 returns c =
     let a = c .before .before .before .before .before .args in
     let b = c .before .loop in
-    marks-end (ends-there (a .gone) (a .roles .now) (a .chairs .now)) (a .ids .now) (b .e) (b .j) (omega arith) (b .inv .2)
+    marks-end (ends-there (a .gone) (a .channel-kinds .now) (a .managers .now)) (a .channel-ids .now) (b .e) (b .j) (omega arith) (b .inv .2)
 
 pub find-ends-spec : {M : Type 1} → statement M
 find-ends-spec =

@@ -18,7 +18,7 @@ kind-of-requires c κs = search needs
 returns : tie.Need-returns
 returns c = let a = c .before .before .before .before .before .before .args in
     c .kind-of .ensures ∙ ap kind (c .before .channel-at .ensures)
-    ∙ kind-found (a .ids .now) (a .roles .now) (a .chairs .now) (a .guests .now) (a .marks .now) (a .c) (c .before .before .find .result) (omega arith) (c .before .before .find .ensures)
+    ∙ kind-found (a .channel-ids .now) (a .channel-kinds .now) (a .managers .now) (a .admitted .now) (a .joined .now) (a .c) (c .before .before .find .result) (omega arith) (c .before .before .find .ensures)
 
 pub kind-of-spec : {M : Type 1} → statement M
 kind-of-spec = tie.close (tie.spec find-requires channel-at-requires kind-of-requires returns)

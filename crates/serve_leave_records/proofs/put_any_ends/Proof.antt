@@ -22,7 +22,7 @@ returns c = search needs
 returns-2 : tie.Need-returns-2
 returns-2 c =
     let a = c .before .before .before .before .args in
-    let none = ends-none (users-of (a .names .now) (a .homes .now)) (a .ids .now) (a .roles .now) (a .chairs .now) (a .guests .now) (a .marks .now) (a .gone) (a .live) (c .before .any-is .ensures (c .if1 .left)) in
+    let none = ends-none (users-of (a .user-ids .now) (a .user-links .now)) (a .channel-ids .now) (a .channel-kinds .now) (a .managers .now) (a .admitted .now) (a .joined .now) (a .gone) (a .live) (c .before .any-is .ensures (c .if1 .left)) in
     (rw none (put-nobody (a .out .now) (a .from)), omega arith)
 
 pub put-any-ends-spec : {M : Type 1} → statement M

@@ -21,7 +21,7 @@ returns c = search needs
 returns-2 : tie.Need-returns-2
 returns-2 c =
     let a = c .before .before .before .before .args in
-    rw (returns-none (users-of (a .names .now) (a .homes .now)) (a .keys .now) (a .modes .now) (a .values .now) (a .gone) (c .before .any-is .ensures (c .if1 .left))) (put-nobody (a .out .now) (a .from))
+    rw (returns-none (users-of (a .user-ids .now) (a .user-links .now)) (a .token-ids .now) (a .token-states .now) (a .token-values .now) (a .gone) (c .before .any-is .ensures (c .if1 .left))) (put-nobody (a .out .now) (a .from))
 
 pub put-any-returns-spec : {M : Type 1} → statement M
 put-any-returns-spec =

@@ -29,8 +29,8 @@ find-ends-requires c κs = search needs
 
 loop-holds : tie.Need-loop-holds Inv-loop μ-loop
 loop-holds c = let a = c .before .before .before .args in
-    let us = users-of (a .names .now) (a .homes .now) in
-    (search needs, search needs, rw (ends-coming us (a .ids .now) (a .roles .now) (a .chairs .now) (a .guests .now) (a .marks .now) (a .gone) (a .live) (c .before .find-ends .result .beyond)) (onward-start _ _ _))
+    let us = users-of (a .user-ids .now) (a .user-links .now) in
+    (search needs, search needs, rw (ends-coming us (a .channel-ids .now) (a .channel-kinds .now) (a .managers .now) (a .admitted .now) (a .joined .now) (a .gone) (a .live) (c .before .find-ends .result .beyond)) (onward-start _ _ _))
 
 next-end-requires : tie.Need-next-end-requires Inv-loop μ-loop
 next-end-requires c κs = search needs
@@ -40,21 +40,21 @@ same-length c = c .before .before .before .loop .inv .2 .size
 
 returns : tie.Need-returns Inv-loop μ-loop
 returns c = let a = c .before .before .before .before .before .before .before .args in
-    let us = users-of (a .names .now) (a .homes .now) in
-    let cs = channels-of (a .ids .now) (a .roles .now) (a .chairs .now) (a .guests .now) (a .marks .now) in
+    let us = users-of (a .user-ids .now) (a .user-links .now) in
+    let cs = channels-of (a .channel-ids .now) (a .channel-kinds .now) (a .managers .now) (a .admitted .now) (a .joined .now) in
     let b = c .before .before .before .loop in
     let x = c .before .next-end in
     let p = onward-end (b .inv .2) (coming-end (end-at us cs (a .gone) (a .live)) _ _ (x .result) (x .ensures _ (c .before .before .before .before .before .find-ends .ensures)) _ (c .if1 .taken)) in
-    (p, omega (arith, p .next, ends-length us cs (a .gone) (a .live) (a .ids .now) (b .inv .1)))
+    (p, omega (arith, p .next, ends-length us cs (a .gone) (a .live) (a .channel-ids .now) (b .inv .1)))
 
 kind-of-requires : tie.Need-kind-of-requires Inv-loop μ-loop
 kind-of-requires c κs = search needs
 
 put-ended-requires : tie.Need-put-ended-requires Inv-loop μ-loop
 put-ended-requires c κs = let a = c .before .before .before .before .before .before .before .before .before .args in
-    let us = users-of (a .names .now) (a .homes .now) in
-    let cs = channels-of (a .ids .now) (a .roles .now) (a .chairs .now) (a .guests .now) (a .marks .now) in
-    omega (arith, c .before .before .before .before .before .loop .inv .2 .next, ends-length us cs (a .gone) (a .live) (a .ids .now) (c .before .before .before .before .before .loop .inv .1))
+    let us = users-of (a .user-ids .now) (a .user-links .now) in
+    let cs = channels-of (a .channel-ids .now) (a .channel-kinds .now) (a .managers .now) (a .admitted .now) (a .joined .now) in
+    omega (arith, c .before .before .before .before .before .loop .inv .2 .next, ends-length us cs (a .gone) (a .live) (a .channel-ids .now) (c .before .before .before .before .before .loop .inv .1))
 
 sub-left : tie.Need-sub-left Inv-loop μ-loop
 sub-left c = search needs
@@ -64,8 +64,8 @@ loop-less c = search needs
 
 loop-again : tie.Need-loop-again Inv-loop μ-loop
 loop-again c = let a = c .before .before .before .before .before .before .before .before .before .before .before .before .args in
-    let us = users-of (a .names .now) (a .homes .now) in
-    let cs = channels-of (a .ids .now) (a .roles .now) (a .chairs .now) (a .guests .now) (a .marks .now) in
+    let us = users-of (a .user-ids .now) (a .user-links .now) in
+    let cs = channels-of (a .channel-ids .now) (a .channel-kinds .now) (a .managers .now) (a .admitted .now) (a .joined .now) in
     let b = c .before .before .before .before .before .before .before .before .loop in
     let x = c .before .before .before .before .before .before .next-end in (
       search needs,
@@ -78,11 +78,11 @@ same-length-2 c = c .before .loop .inv .2 .size
 
 returns-2 : tie.Need-returns-2 Inv-loop μ-loop
 returns-2 c = let a = c .before .before .before .before .before .args in
-    let us = users-of (a .names .now) (a .homes .now) in
-    let cs = channels-of (a .ids .now) (a .roles .now) (a .chairs .now) (a .guests .now) (a .marks .now) in
+    let us = users-of (a .user-ids .now) (a .user-links .now) in
+    let cs = channels-of (a .channel-ids .now) (a .channel-kinds .now) (a .managers .now) (a .admitted .now) (a .joined .now) in
     let b = c .before .loop in
     let p = onward-end (b .inv .2) (coming-none (end-at us cs (a .gone) (a .live)) _ _ _ (search needs)) in
-    (p, omega (arith, p .next, ends-length us cs (a .gone) (a .live) (a .ids .now) (b .inv .1)))
+    (p, omega (arith, p .next, ends-length us cs (a .gone) (a .live) (a .channel-ids .now) (b .inv .1)))
 
 pub put-ends-spec : {M : Type 1} → statement M
 put-ends-spec =

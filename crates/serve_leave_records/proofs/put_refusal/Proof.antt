@@ -38,7 +38,7 @@ same-length c = search needs
 returns : tie.Need-returns
 unfolding name link
 returns c = let a = c .before .before .before .before .before .before .before .before .before .before .before .before .before .args in
-    refusal-put (users-of (a .names .now) (a .homes .now)) (a .gone) (a .k) (a .g) (a .r) (c .before .before .before .before .link-at .result) (c .before .before .before .before .before .before .before .before .result-number .result) (c .before .before .before .before .before .before .before .name-at .result) (c .before .before .before .before .before .before .before .before .before .status-number .result) (c .before .before .before .before .before .before .before .before .before .before .before .lose .result)
+    refusal-put (users-of (a .user-ids .now) (a .user-links .now)) (a .gone) (a .k) (a .g) (a .r) (c .before .before .before .before .link-at .result) (c .before .before .before .before .before .before .before .before .result-number .result) (c .before .before .before .before .before .before .before .name-at .result) (c .before .before .before .before .before .before .before .before .before .status-number .result) (c .before .before .before .before .before .before .before .before .before .before .before .lose .result)
     (c .before .before .before .before .before .before .before .before .before .before .before .lose .ensures) (c .before .before .before .before .before .before .before .before .result-number .ensures) (c .before .before .before .before .before .before .before .name-at .ensures) (c .before .before .before .before .before .before .before .before .before .status-number .ensures ∙ c .before .before .before .before .before .before .before .before .before .before .status .ensures) (c .before .before .before .before .link-at .ensures) (c .before .before .before .before .before .before .token-confirm .ensures) (c .before .before .before .before .before .before .before .before .before .before .before .before .before .pre) (c .before .before .send .ensures)
 
 pub put-refusal-spec : {M : Type 1} → statement M

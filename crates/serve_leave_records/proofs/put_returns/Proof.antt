@@ -24,7 +24,7 @@ abbrev μ-loop : tie.MeasureT-loop
 
 loop-holds : tie.Need-loop-holds Inv-loop μ-loop
 loop-holds c = let a = c .before .before .args in
-    (search needs, search needs, rw (returns-coming (users-of (a .names .now) (a .homes .now)) (a .keys .now) (a .modes .now) (a .values .now) (a .gone)) (onward-start _ _ _))
+    (search needs, search needs, rw (returns-coming (users-of (a .user-ids .now) (a .user-links .now)) (a .token-ids .now) (a .token-states .now) (a .token-values .now) (a .gone)) (onward-start _ _ _))
 
 next-where-requires : tie.Need-next-where-requires Inv-loop μ-loop
 next-where-requires c κs = search needs
@@ -34,7 +34,7 @@ same-length c = c .before .before .before .loop .inv .2 .size
 
 returns : tie.Need-returns Inv-loop μ-loop
 returns c = let a = c .before .before .before .before .before .before .args in
-    let f = return-at (users-of (a .names .now) (a .homes .now)) (tokens-of (a .keys .now) (a .modes .now) (a .values .now)) (a .gone) in
+    let f = return-at (users-of (a .user-ids .now) (a .user-links .now)) (tokens-of (a .token-ids .now) (a .token-states .now) (a .token-values .now)) (a .gone) in
     onward-end (c .before .before .before .loop .inv .2) (coming-end f _ _ (c .before .next-where .result) (c .before .next-where .ensures) _ (c .if1 .taken))
 
 state-requires : tie.Need-state-requires Inv-loop μ-loop
@@ -42,7 +42,7 @@ state-requires c κs = search needs
 
 put-returned-requires : tie.Need-put-returned-requires Inv-loop μ-loop
 put-returned-requires c κs = let a = c .before .before .before .before .before .before .before .before .args in
-    omega (arith, c .before .before .before .before .before .loop .inv .2 .next, returns-length (users-of (a .names .now) (a .homes .now)) (tokens-of (a .keys .now) (a .modes .now) (a .values .now)) (a .gone) (c .before .before .before .before .before .loop .inv .1))
+    omega (arith, c .before .before .before .before .before .loop .inv .2 .next, returns-length (users-of (a .user-ids .now) (a .user-links .now)) (tokens-of (a .token-ids .now) (a .token-states .now) (a .token-values .now)) (a .gone) (c .before .before .before .before .before .loop .inv .1))
 
 sub-left : tie.Need-sub-left Inv-loop μ-loop
 sub-left c = search needs
@@ -53,7 +53,7 @@ loop-less c = search needs
 loop-again : tie.Need-loop-again Inv-loop μ-loop
 loop-again c = let b = c .before .before .before .before .before .before .before .before .loop in
     let a = c .before .before .before .before .before .before .before .before .before .before .before .args in
-    let f = return-at (users-of (a .names .now) (a .homes .now)) (tokens-of (a .keys .now) (a .modes .now) (a .values .now)) (a .gone) in (
+    let f = return-at (users-of (a .user-ids .now) (a .user-links .now)) (tokens-of (a .token-ids .now) (a .token-states .now) (a .token-values .now)) (a .gone) in (
       search needs,
       b .inv .1,
       onward-step _ _ (b .inv .2) (coming-next f _ _ (c .before .before .before .before .before .before .next-where .result) (c .before .before .before .before .before .before .next-where .ensures) _ (search needs) (c .before .before .before .before .before .if1 .left)) (rw (c .before .before .before .before .state .ensures) at (c .before .before .put-returned .ensures)),
@@ -64,7 +64,7 @@ same-length-2 c = c .before .loop .inv .2 .size
 
 returns-2 : tie.Need-returns-2 Inv-loop μ-loop
 returns-2 c = let a = c .before .before .before .before .args in
-    let f = return-at (users-of (a .names .now) (a .homes .now)) (tokens-of (a .keys .now) (a .modes .now) (a .values .now)) (a .gone) in
+    let f = return-at (users-of (a .user-ids .now) (a .user-links .now)) (tokens-of (a .token-ids .now) (a .token-states .now) (a .token-values .now)) (a .gone) in
     onward-end (c .before .loop .inv .2) (coming-none f _ _ _ (search needs))
 
 pub put-returns-spec : {M : Type 1} → statement M

@@ -31,7 +31,7 @@ unfolding set-channel
 returns c ids =
     let a = c .before .before .before .before .before .before .before .before .before .before .before .before .before .before .before .before .before .before .before .before .before .args in
     let t = c .before .before .before .before .before .before .before .before .before .before .before .tell-chosen in
-    change-done (users-of (a .names .now) (a .homes .now)) (channels-of ids (a .roles .now) (a .chairs .now) (a .guests .now) (a .marks .now)) (a .j) (a .s) _ (a .out .now) _ (c .before .before .before .before .before .before .before .before .before .before .before .before .before .before .before .channel-at .ensures) _ (c .before .before .before .before .before .before .before .before .before .before .before .before .before .before .pick-for .ensures) (t .ensures .0) (sym (c .before .before .before .before .before .before .before .done .ensures) ∙ c .before .before .before .before .before .before .if1 .taken) _ (t .ensures .1) _ (c .before .before .before .before .before .with-change .ensures) _ (λ i. record { ids = ids; cells = c .set-channel .ensures i })
+    change-done (users-of (a .user-ids .now) (a .user-links .now)) (channels-of ids (a .channel-kinds .now) (a .managers .now) (a .admitted .now) (a .joined .now)) (a .j) (a .s) _ (a .out .now) _ (c .before .before .before .before .before .before .before .before .before .before .before .before .before .before .before .channel-at .ensures) _ (c .before .before .before .before .before .before .before .before .before .before .before .before .before .before .pick-for .ensures) (t .ensures .0) (sym (c .before .before .before .before .before .before .before .done .ensures) ∙ c .before .before .before .before .before .before .if1 .taken) _ (t .ensures .1) _ (c .before .before .before .before .before .with-change .ensures) _ (λ i. record { ids = ids; cells = c .set-channel .ensures i })
 
 same-length-2 : tie.Need-same-length-2
 same-length-2 c = search needs
@@ -40,7 +40,7 @@ returns-2 : tie.Need-returns-2
 returns-2 c ids =
     let a = c .before .before .before .before .before .before .before .before .before .before .before .before .before .before .before .args in
     let t = c .before .before .before .before .before .tell-chosen in
-    change-else (users-of (a .names .now) (a .homes .now)) (channels-of ids (a .roles .now) (a .chairs .now) (a .guests .now) (a .marks .now)) (a .j) (a .s) _ (a .out .now) _ (c .before .before .before .before .before .before .before .before .before .channel-at .ensures) _ (c .before .before .before .before .before .before .before .before .pick-for .ensures) (t .ensures .0) (sym (c .before .done .ensures) ∙ c .if1 .left)
+    change-else (users-of (a .user-ids .now) (a .user-links .now)) (channels-of ids (a .channel-kinds .now) (a .managers .now) (a .admitted .now) (a .joined .now)) (a .j) (a .s) _ (a .out .now) _ (c .before .before .before .before .before .before .before .before .before .channel-at .ensures) _ (c .before .before .before .before .before .before .before .before .pick-for .ensures) (t .ensures .0) (sym (c .before .done .ensures) ∙ c .if1 .left)
 
 pub change-spec : {M : Type 1} → statement M
 change-spec =

@@ -32,11 +32,11 @@ same-length c = search needs
 returns-2 : tie.Need-returns-2
 returns-2 c =
     let a = c .before .before .before .before .before .before .before .before .before .before .before .before .before .before .before .before .before .args in
-    let us = users-of (a .names .now) (a .homes .now) in
-    let cs = channels-of (a .ids .now) (a .roles .now) (a .chairs .now) (a .guests .now) (a .marks .now) in
+    let us = users-of (a .user-ids .now) (a .user-links .now) in
+    let cs = channels-of (a .channel-ids .now) (a .channel-kinds .now) (a .managers .now) (a .admitted .now) (a .joined .now) in
     let ids = take (a .count) (a .listed .now) in
     let j = c .before .before .before .before .before .before .before .before .before .before .before .managed in
-    c .before .before .change .ensures (a .ids .now)
+    c .before .before .change .ensures (a .channel-ids .now)
     ∙ ap (λ (x : Effect Channels). settle cs x (a .out .now))
     (ap (λ (s : Say). changes us cs (j .result) s ids) (c .before .before .before .before .before .before .before .before .before .said .ensures) ∙ revises us cs (a .p) (a .u) (a .c) ids (a .out .now) (j .result) (j .ensures .0 (c .before .before .before .before .before .before .before .before .before .before .if1 .left)) (a .admits))
 

@@ -70,7 +70,7 @@ unfolding link
 returns c = let a = c .before .before .before .before .before .before .before .before .before .before .before .before .before .before .before .before .before .before .before .before .before .before .args in
     let h = c .before .before .before .before .before .before .before .before .before .before .before .before .before .before .before .before .before .before .before .before .before .before .pre in
     let r = c .before .before .before .before .before .before .before .before .before .before .before .before .before .before .before .find in (
-      λ passed t. store-new (a .list .now) (a .t .count) t _ (r .result) (find-at (a .names .now) _ (r .result) (r .ensures) (search needs)) (omega arith) (sym (c .before .before .before .before .before .before .before .before .before .before .before .before .before .counts .ensures) ∙ c .before .before .before .before .before .before .before .before .before .before .before .before .if2 .taken) (sym (c .before .before .before .before .before .before .before .before .before .before .before .has .ensures) ∙ not-true _ (c .before .before .before .before .before .before .before .before .before .before .if3 .taken)) (search needs) (omega arith) (h .4) (h .5) _ (getD-any (a .homes .now) (r .result) 0 16 (search needs)) _ _ _ (c .before .before .before .before .before .add-share .ensures .0) (c .before .before .before .before .before .add-share .ensures .1) (c .with-seat .ensures),
+      λ passed t. store-new (a .list .now) (a .t .count) t _ (r .result) (find-at (a .user-ids .now) _ (r .result) (r .ensures) (search needs)) (omega arith) (sym (c .before .before .before .before .before .before .before .before .before .before .before .before .before .counts .ensures) ∙ c .before .before .before .before .before .before .before .before .before .before .before .before .if2 .taken) (sym (c .before .before .before .before .before .before .before .before .before .before .before .has .ensures) ∙ not-true _ (c .before .before .before .before .before .before .before .before .before .before .if3 .taken)) (search needs) (omega arith) (h .4) (h .5) _ (getD-any (a .user-links .now) (r .result) 0 16 (search needs)) _ _ _ (c .before .before .before .before .before .add-share .ensures .0) (c .before .before .before .before .before .add-share .ensures .1) (c .with-seat .ensures),
       λ j l. getD-set-other (a .list .now) (a .t .count) j _ 0 (λ e. omega arith),
       search needs,
       search needs,
@@ -79,17 +79,17 @@ returns c = let a = c .before .before .before .before .before .before .before .b
 returns-2 : tie.Need-returns-2
 returns-2 c = let a = c .before .before .before .before .before .before .before .before .before .before .before .before .args in
     let r = c .before .before .before .before .before .find in
-    (λ passed t. pass-seen t _ (r .result) (find-at (a .names .now) _ (r .result) (r .ensures) (search needs)) (omega arith) (sym (c .before .before .before .counts .ensures) ∙ c .before .before .if2 .taken) (sym (c .before .has .ensures) ∙ not-false _ (c .if3 .left)), λ j l. refl, search needs, search needs)
+    (λ passed t. pass-seen t _ (r .result) (find-at (a .user-ids .now) _ (r .result) (r .ensures) (search needs)) (omega arith) (sym (c .before .before .before .counts .ensures) ∙ c .before .before .if2 .taken) (sym (c .before .has .ensures) ∙ not-false _ (c .if3 .left)), λ j l. refl, search needs, search needs)
 
 returns-3 : tie.Need-returns-3
 returns-3 c = let a = c .before .before .before .before .before .before .before .before .before .before .args in
     let r = c .before .before .before .find in
-    (λ passed t. pass-uncounted t _ (r .result) (find-at (a .names .now) _ (r .result) (r .ensures) (search needs)) (omega arith) (sym (c .before .counts .ensures) ∙ c .if2 .left), λ j l. refl, search needs, search needs)
+    (λ passed t. pass-uncounted t _ (r .result) (find-at (a .user-ids .now) _ (r .result) (r .ensures) (search needs)) (omega arith) (sym (c .before .counts .ensures) ∙ c .if2 .left), λ j l. refl, search needs, search needs)
 
 returns-4 : tie.Need-returns-4
 returns-4 c = let a = c .before .before .before .before .before .before .before .before .args in
     let r = c .before .find in
-    (λ passed t. pass-nowhere t _ (find-nowhere (a .names .now) _ (r .result) (r .ensures) (search needs)), λ j l. refl, search needs, search needs)
+    (λ passed t. pass-nowhere t _ (find-nowhere (a .user-ids .now) _ (r .result) (r .ensures) (search needs)), λ j l. refl, search needs, search needs)
 
 pub take-one-spec : {M : Type 1} → statement M
 take-one-spec =

@@ -15,11 +15,11 @@ count-links-requires c κs = search needs
 
 returns : tie.Need-returns
 returns c = let a = c .before .before .before .before .before .before .args in
-    audience-at (a .ids .now) _ (a .c) _ _ _ (find-at (a .ids .now) (a .c) _ (c .before .before .before .before .find .ensures) (search needs)) (c .before .channel-at .ensures) (c .count-links .ensures)
+    audience-at (a .channel-ids .now) _ (a .c) _ _ _ (find-at (a .channel-ids .now) (a .c) _ (c .before .before .before .before .find .ensures) (search needs)) (c .before .channel-at .ensures) (c .count-links .ensures)
 
 returns-2 : tie.Need-returns-2
 returns-2 c = let a = c .before .before .before .before .args in
-    audience-none (a .ids .now) _ (a .c) (find-nowhere (a .ids .now) (a .c) _ (c .before .before .find .ensures) (search needs))
+    audience-none (a .channel-ids .now) _ (a .c) (find-nowhere (a .channel-ids .now) (a .c) _ (c .before .before .find .ensures) (search needs))
 
 pub audience-spec : {M : Type 1} → statement M
 audience-spec =

@@ -18,7 +18,7 @@ returns : tie.Need-returns
 returns c =
     λ ts is here. let a = c .before .before .before .before .args in
     does-as ts (a .k) (c .concluded .result) (c .concluded .ensures ts)
-    (answer-heard (users-of (a .names .now) (a .homes .now)) ts (a .p) (a .result) (a .u) (a .k) (a .i) here is (sym (c .before .before .before .is-offered .ensures) ∙ c .before .before .if1 .taken) (c .before .answered .result) (c .before .answered .ensures))
+    (answer-heard (users-of (a .user-ids .now) (a .user-links .now)) ts (a .p) (a .result) (a .u) (a .k) (a .i) here is (sym (c .before .before .before .is-offered .ensures) ∙ c .before .before .if1 .taken) (c .before .answered .result) (c .before .answered .ensures))
 
 quiet-requires : tie.Need-quiet-requires
 quiet-requires c κs = search needs
@@ -27,7 +27,7 @@ returns-2 : tie.Need-returns-2
 returns-2 c =
     λ ts is here. let a = c .before .before .before .args in
     quiet-ignored ts (a .k) (c .quiet .result) (c .quiet .ensures .0)
-    (answer-unheard (users-of (a .names .now) (a .homes .now)) ts (a .p) (a .result) (a .u) (a .k) (a .i) here is (sym (c .before .before .is-offered .ensures) ∙ c .before .if1 .left))
+    (answer-unheard (users-of (a .user-ids .now) (a .user-links .now)) ts (a .p) (a .result) (a .u) (a .k) (a .i) here is (sym (c .before .before .is-offered .ensures) ∙ c .before .if1 .left))
 
 pub answered-spec : {M : Type 1} → statement M
 answered-spec =

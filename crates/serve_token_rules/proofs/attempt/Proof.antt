@@ -51,7 +51,7 @@ returns c =
     let a = c .before .before .before .before .before .args in
     let h = c .before .before .state-at in
     rw (c .before .before .before .enum-told .given .1)
-    (refl, h .ensures, c .grab .ensures ∙ grab-same (h .result) (a .i) (c .before .full-for .result) (at-limit (a .limit) (a .keys .now)) (c .before .full-for .ensures))
+    (refl, h .ensures, c .grab .ensures ∙ grab-same (h .result) (a .i) (c .before .full-for .result) (at-limit (a .limit) (a .token-ids .now)) (c .before .full-for .ensures))
 
 returns-2 : tie.Need-returns-2
 unfolding kindOf attempted
@@ -59,7 +59,7 @@ returns-2 c =
     let a = c .before .before .before .before .before .args in
     let h = c .before .before .state-at2 in
     rw (c .before .before .before .enum-told2 .given .1)
-    (refl, h .ensures, c .inhibit .ensures ∙ inhibit-same (h .result) (a .i) (c .before .full-for2 .result) (at-limit (a .limit) (a .keys .now)) (c .before .full-for2 .ensures))
+    (refl, h .ensures, c .inhibit .ensures ∙ inhibit-same (h .result) (a .i) (c .before .full-for2 .result) (at-limit (a .limit) (a .token-ids .now)) (c .before .full-for2 .ensures))
 
 returns-3 : tie.Need-returns-3
 unfolding kindOf attempted
@@ -69,7 +69,7 @@ returns-4 : tie.Need-returns-4
 returns-4 c =
     let a = c .before .before .before .args in
     let h = c .before .state-at4 in
-    let r = refused (a .ask) (at-limit (a .limit) (a .keys .now)) (h .result) (a .i) _ (c .before .before .match .keys4) (c .offer-fails .ensures) in
+    let r = refused (a .ask) (at-limit (a .limit) (a .token-ids .now)) (h .result) (a .i) _ (c .before .before .match .keys4) (c .offer-fails .ensures) in
     (r .0, h .ensures, r .1)
 
 pub attempt-spec : {M : Type 1} → statement M

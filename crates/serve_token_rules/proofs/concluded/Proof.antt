@@ -43,7 +43,7 @@ returns-2 : tie.Need-returns-2
 returns-2 c =
     λ ts. let a = c .before .before .before .args in
     quiet-turns ts (a .k) (c .quiet .result) (a .next) (c .before .new-token2 .ensures) (c .quiet .ensures .0) (c .quiet .ensures .1)
-    (ap (λ (rs : List Sent). done (set-token ts (a .k) (a .next)) rs) (silent (users-of (a .names .now) (a .homes .now)) (a .result) (a .k) (a .h) (a .next) (c .before .before .match .keys2)))
+    (ap (λ (rs : List Sent). done (set-token ts (a .k) (a .next)) rs) (silent (users-of (a .user-ids .now) (a .user-links .now)) (a .result) (a .k) (a .h) (a .next) (c .before .before .match .keys2)))
 
 pub concluded-spec : {M : Type 1} → statement M
 concluded-spec =

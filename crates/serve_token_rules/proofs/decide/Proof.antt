@@ -46,7 +46,7 @@ returns-2 c =
     let found = at .ensures .0 (c .before .if1 .taken) in
     rw (c .before .before .before .before .before .ask2 .given .1)
     (does-as ts (a .k) (c .given .result) (c .given .ensures ts)
-    (sym (offer-given (users-of (a .names .now) (a .homes .now)) ts (a .p) (a .u) (a .i) (a .k) r here (h .ensures ∙ is) (found .0) (at .result) (found .1))))
+    (sym (offer-given (users-of (a .user-ids .now) (a .user-links .now)) ts (a .p) (a .u) (a .i) (a .k) r here (h .ensures ∙ is) (found .0) (at .result) (found .1))))
 
 attempt-requires : tie.Need-attempt-requires
 attempt-requires c κs = search needs
@@ -57,8 +57,8 @@ turned-requires c κs = search needs
 returns-3 : tie.Need-returns-3
 returns-3 c =
     λ ts is here. let a = c .before .before .before .before .args in
-    let us = users-of (a .names .now) (a .homes .now) in
-    let full = at-limit (a .limit) (a .keys .now) in
+    let us = users-of (a .user-ids .now) (a .user-links .now) in
+    let full = at-limit (a .limit) (a .token-ids .now) in
     let m = c .before .before .match2 in
     let t = c .before .attempt in
     let e = t .ensures in

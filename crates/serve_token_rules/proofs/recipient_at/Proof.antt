@@ -17,9 +17,9 @@ find-requires c κs = search needs
 returns : tie.Need-returns
 returns c =
     let a = c .before .before .before .before .args in
-    let l : length (a .names .now) ≡ 64 = search needs in (
-      λ s. (sym (c .before .before .before .has-grabbed .ensures) ∙ c .before .before .if1 .taken, find-at (a .names .now) (a .recipient) (c .find .result) (c .find .ensures) (omega arith)),
-      λ s g. find-nowhere (a .names .now) (a .recipient) (c .find .result) (c .find .ensures) (omega arith),
+    let l : length (a .user-ids .now) ≡ 64 = search needs in (
+      λ s. (sym (c .before .before .before .has-grabbed .ensures) ∙ c .before .before .if1 .taken, find-at (a .user-ids .now) (a .recipient) (c .find .result) (c .find .ensures) (omega arith)),
+      λ s g. find-nowhere (a .user-ids .now) (a .recipient) (c .find .result) (c .find .ensures) (omega arith),
     )
 
 returns-2 : tie.Need-returns-2

@@ -15,7 +15,7 @@ enum-told c = search needs
 returns : tie.Need-returns
 returns c =
     λ e does. let a = c .before .before .before .args in
-    let ts = tokens-of (a .keys .now) (a .modes .now) (a .values .now) in
+    let ts = tokens-of (a .token-ids .now) (a .token-states .now) (a .token-values .now) in
     settle-ignored ts (a .out .now) ∙ ap (λ (x : Effect Tokens). settle ts x (a .out .now)) (sym (does-ignored ts (a .k) (a .d) e does (c .enum-told .given .1)))
 
 deliver-requires : tie.Need-deliver-requires
@@ -30,7 +30,7 @@ same-length c = search needs
 returns-2 : tie.Need-returns-2
 returns-2 c =
     λ e does. let a = c .before .before .before .before .before .before .before .before .args in
-    let ts = tokens-of (a .keys .now) (a .modes .now) (a .values .now) in
+    let ts = tokens-of (a .token-ids .now) (a .token-states .now) (a .token-values .now) in
     rw (eq-eqb _ 9 (sym (c .before .reply-number .ensures) ∙ c .if1 .taken)) at (c .before .before .before .before .deliver .ensures ts (fated ts (a .k) (a .d .fate)) e (does-tell ts (a .k) (a .d) e does (c .before .before .before .before .before .before .match .keys2)))
 
 keep-requires : tie.Need-keep-requires
@@ -42,7 +42,7 @@ same-length-2 c = search needs
 returns-3 : tie.Need-returns-3
 returns-3 c =
     λ e does. let a = c .before .before .before .before .before .before .before .before .before .before .before .before .args in
-    let ts = tokens-of (a .keys .now) (a .modes .now) (a .values .now) in
+    let ts = tokens-of (a .token-ids .now) (a .token-states .now) (a .token-values .now) in
     rw (c .keep .ensures (c .before .before .before .before .before .before .before .before .before .before .before .before .pre)) (rw (ne-eqb _ 9 (λ z. c .before .before .before .before .if1 .left (c .before .before .before .before .before .reply-number .ensures ∙ z))) at (c .before .before .before .before .before .before .before .before .deliver .ensures ts (fated ts (a .k) (a .d .fate)) e (does-tell ts (a .k) (a .d) e does (c .before .before .before .before .before .before .before .before .before .before .match .keys2))))
 
 pub carry-spec : {M : Type 1} → statement M

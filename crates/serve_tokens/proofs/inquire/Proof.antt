@@ -15,7 +15,7 @@ returns : tie.Need-returns
 unfolding test
 returns c = λ ts is here. let a = c .before .before .before .args in
     rw (c .before .if1 .taken)
-    (asks-done (users-of (a .names .now) (a .homes .now)) (a .p) (a .u) _ (a .i) here ts (a .out .now)
+    (asks-done (users-of (a .user-ids .now) (a .user-links .now)) (a .p) (a .u) _ (a .i) here ts (a .out .now)
     (one-full ts ts (a .p) _ (a .out .now) 6 (test-length (a .u) (a .k) _) (c .if2 .taken)))
 
 returns-2 : tie.Need-returns-2
@@ -24,7 +24,7 @@ returns-2 c = λ ts is here. let t = c .before .before .before .before .before .
     let a = t .before .before .before .before .args in
     let s = c .before .before .before .before .before .before .status-number .ensures ∙ t .status .ensures ∙ ap (λ (h : Holding). status h (a .i)) is in
     rw (t .before .before .if1 .taken)
-    (asks-done (users-of (a .names .now) (a .homes .now)) (a .p) (a .u) _ (a .i) here ts (a .out .now)
+    (asks-done (users-of (a .user-ids .now) (a .user-links .now)) (a .p) (a .u) _ (a .i) here ts (a .out .now)
     (c .before .before .send .ensures .1 (TTcf (a .u) (a .k) (status (state ts (a .k)) (a .i))) ts ts (c .before .before .before .before .before .test-confirm .ensures ∙ ap (λ (n : ℕ). wire (TTcf (a .u) (a .k) n)) s)))
 
 returns-3 : tie.Need-returns-3
@@ -32,7 +32,7 @@ unfolding please
 returns-3 c = λ ts is here. let h = c .before .before .before .before .before .before in
     let a = h .before .before .before .before .args in
     rw (h .before .before .if1 .left)
-    (asks-done (users-of (a .names .now) (a .homes .now)) (a .p) (a .u) _ (a .i) here ts (a .out .now)
+    (asks-done (users-of (a .user-ids .now) (a .user-links .now)) (a .p) (a .u) _ (a .i) here ts (a .out .now)
     (rw (h .hosts .ensures, h .before .party .ensures, is) at (c .before .before .tell .ensures (TPin (a .u) (a .k)) ts (c .before .before .before .before .before .please-indication .ensures))))
 
 pub inquire-spec : {M : Type 1} → statement M

@@ -18,7 +18,7 @@ returns c = λ e. rw (c .before .before .before .before .before .fate .given .1,
 returns-2 : tie.Need-returns-2
 returns-2 c =
     λ e. let a = c .before .args in
-    unfated (tokens-of (a .keys .now) (a .modes .now) (a .values .now)) (a .k) (a .fate) (c .match .keys2)
+    unfated (tokens-of (a .token-ids .now) (a .token-states .now) (a .token-values .now)) (a .k) (a .fate) (c .match .keys2)
 
 pub keep-spec : {M : Type 1} → statement M
 keep-spec = tie.close (tie.spec enum-known-fate set-at-requires returns returns-2)

@@ -25,8 +25,8 @@ returns-2 c = λ m cs new. let s = c .before .before .before .before in
     let f = e .before in
     let i = f .before .before .before in
     let a = i .before .before .before .args in
-    let ts = tokens-of (a .keys .now) (a .modes .now) (a .values .now) in
-    let is = state-found ts (a .k) _ (place 64 (f .find .result)) (find-place (a .keys .now) (a .k) (f .find .result) 64 (search needs) (f .find .ensures)) refl in
+    let ts = tokens-of (a .token-ids .now) (a .token-states .now) (a .token-values .now) in
+    let is = state-found ts (a .k) _ (place 64 (f .find .result)) (find-place (a .token-ids .now) (a .k) (f .find .result) 64 (search needs) (f .find .ensures)) refl in
     let here = i .before .asker .ensures .1 (i .if1 .left) in
     on-tokens (a .limits) m _ cs _ new (a .p) (token-request (a .number) (a .u) (a .k) (a .more)) _ _ (c .before .before .inquire .ensures ts (s .state-at .ensures ∙ is) here)
     (asked-to new _ (a .p) (a .number) (a .u) (a .k) (a .more) (e .if2 .taken))
@@ -34,7 +34,7 @@ returns-2 c = λ m cs new. let s = c .before .before .before .before in
 carry-requires : tie.Need-carry-requires
 carry-requires c κs = let f = c .before .before .before .before .before .before .before .before .before .before in
     let a = f .before .before .before .before .before .before .args in
-    find-place (a .keys .now) (a .k) (f .find .result) 64 (search needs) (f .find .ensures)
+    find-place (a .token-ids .now) (a .k) (f .find .result) 64 (search needs) (f .find .ensures)
 
 returns-3 : tie.Need-returns-3
 unfolding tokens-full
@@ -42,8 +42,8 @@ returns-3 c = λ m cs new. let e = c .before .before .before .before .before .be
     let f = e .before in
     let i = f .before .before .before in
     let a = i .before .before .before .args in
-    let ts = tokens-of (a .keys .now) (a .modes .now) (a .values .now) in
-    let is = state-found ts (a .k) _ (place 64 (f .find .result)) (find-place (a .keys .now) (a .k) (f .find .result) 64 (search needs) (f .find .ensures)) refl in
+    let ts = tokens-of (a .token-ids .now) (a .token-states .now) (a .token-values .now) in
+    let is = state-found ts (a .k) _ (place 64 (f .find .result)) (find-place (a .token-ids .now) (a .k) (f .find .result) 64 (search needs) (f .find .ensures)) refl in
     let here = i .before .asker .ensures .1 (i .if1 .left) in
     on-tokens (a .limits) m _ cs _ new (a .p) (token-request (a .number) (a .u) (a .k) (a .more)) _ _ (c .before .before .carry .ensures _ (c .before .before .before .before .before .before .before .decide .ensures ts is here))
     (rw (not-asked-to (a .number) (a .u) (a .k) (a .more) (e .if2 .left)) (c .before .before .before .before .before .before .before .before .before .before .before .ask-of .ensures (a .u) (a .k) new _ (a .p)))

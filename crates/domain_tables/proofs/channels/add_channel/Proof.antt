@@ -9,24 +9,24 @@ use Rattle.domain_tables.proofs.channels.add_channel.Tie as tie
 spare-requires : tie.Need-spare-requires
 spare-requires c κs = search needs
 
-mul-ids : tie.Need-mul-ids
-mul-ids c = search needs
+mul-channel-ids : tie.Need-mul-channel-ids
+mul-channel-ids c = search needs
 
-element-write-ids : tie.Need-element-write-ids
-element-write-ids c = search needs
+element-write-channel-ids : tie.Need-element-write-channel-ids
+element-write-channel-ids c = search needs
 
 set-channel-requires : tie.Need-set-channel-requires
 set-channel-requires c κs = search needs
 
 returns : tie.Need-returns
 unfolding add-channel store
-returns c = rw (spare-at (c .before .before .before .before .before .before .before .before .before .args .ids .now) (c .before .before .before .before .before .before .spare .result) (c .before .before .before .before .before .before .spare .ensures) (search needs), c .set-channel .ensures) refl
+returns c = rw (spare-at (c .before .before .before .before .before .before .before .before .before .args .channel-ids .now) (c .before .before .before .before .before .before .spare .result) (c .before .before .before .before .before .before .spare .ensures) (search needs), c .set-channel .ensures) refl
 
 returns-2 : tie.Need-returns-2
 unfolding add-channel store
-returns-2 c = rw (spare-nowhere (c .before .before .before .before .args .ids .now) (c .before .spare .result) (c .before .spare .ensures) (search needs)) refl
+returns-2 c = rw (spare-nowhere (c .before .before .before .before .args .channel-ids .now) (c .before .spare .result) (c .before .spare .ensures) (search needs)) refl
 
 pub add-channel-spec : {M : Type 1} → statement M
 add-channel-spec =
     tie.close
-    (tie.spec spare-requires mul-ids element-write-ids set-channel-requires returns returns-2)
+    (tie.spec spare-requires mul-channel-ids element-write-channel-ids set-channel-requires returns returns-2)

@@ -23,10 +23,10 @@ shared-slice-read-t25 : tie.Need-shared-slice-read-t25
 shared-slice-read-t25 c = search needs
 
 returns : tie.Need-returns
-returns c = sym (channel-at (c .before .before .before .before .before .before .before .before .before .args .roles .now) (c .before .before .before .before .before .before .before .before .before .args .chairs .now) (c .before .before .before .before .before .before .before .before .before .args .guests .now) (c .before .before .before .before .before .before .before .before .before .args .marks .now) (c .before .before .before .before .before .before .before .before .before .args .j) (search needs) (search needs) (search needs) (search needs))
+returns c = sym (channel-at (c .before .before .before .before .before .before .before .before .before .args .channel-kinds .now) (c .before .before .before .before .before .before .before .before .before .args .managers .now) (c .before .before .before .before .before .before .before .before .before .args .admitted .now) (c .before .before .before .before .before .before .before .before .before .args .joined .now) (c .before .before .before .before .before .before .before .before .before .args .j) (search needs) (search needs) (search needs) (search needs))
 
 returns-2 : tie.Need-returns-2
-returns-2 c = sym (channel-none (c .before .before .before .before .before .args .roles .now) (c .before .before .before .before .before .args .chairs .now) (c .before .before .before .before .before .args .guests .now) (c .before .before .before .before .before .args .marks .now) (c .before .before .before .before .before .args .j) (search needs))
+returns-2 c = sym (channel-none (c .before .before .before .before .before .args .channel-kinds .now) (c .before .before .before .before .before .args .managers .now) (c .before .before .before .before .before .args .admitted .now) (c .before .before .before .before .before .args .joined .now) (c .before .before .before .before .before .args .j) (search needs))
 
 pub channel-at-spec : {M : Type 1} → statement M
 channel-at-spec =

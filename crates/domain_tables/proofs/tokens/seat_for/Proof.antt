@@ -16,7 +16,7 @@ returns-2 : tie.Need-returns-2
 unfolding found
 returns-2 c =
     rw (place-out 64 (c .before .before .before .args .i) (c .before .before .if1 .left))
-    (spare-place (c .before .before .before .args .keys .now) (c .spare .result) 64 (search needs) (c .spare .ensures))
+    (spare-place (c .before .before .before .args .token-ids .now) (c .spare .result) 64 (search needs) (c .spare .ensures))
 
 pub seat-for-spec : {M : Type 1} → statement M
 seat-for-spec = tie.close (tie.spec returns spare-requires returns-2)

@@ -16,7 +16,7 @@ returns : tie.Need-returns
 returns c =
     let a = c .before .before .before .args in
     let i = c .before .find .result in
-    state-found (tokens-of (a .keys .now) (a .modes .now) (a .values .now)) (a .k) (c .state-at .result) (place 64 i) (find-place (a .keys .now) (a .k) i 64 (search needs) (c .before .find .ensures)) (c .state-at .ensures)
+    state-found (tokens-of (a .token-ids .now) (a .token-states .now) (a .token-values .now)) (a .k) (c .state-at .result) (place 64 i) (find-place (a .token-ids .now) (a .k) i 64 (search needs) (c .before .find .ensures)) (c .state-at .ensures)
 
 pub state-spec : {M : Type 1} → statement M
 state-spec = tie.close (tie.spec find-requires state-at-requires returns)

@@ -22,7 +22,7 @@ holding-of-requires c κs = search needs
 returns : tie.Need-returns
 unfolding load
 returns c = let a = c .before .before .before .before .before .before .args in
-    rw (c .holding-of .ensures, place-in 64 (a .i) (search needs), token-at (a .modes .now) (a .values .now) (a .i) (search needs) (search needs)) refl
+    rw (c .holding-of .ensures, place-in 64 (a .i) (search needs), token-at (a .token-states .now) (a .token-values .now) (a .i) (search needs) (search needs)) refl
 
 returns-2 : tie.Need-returns-2
 unfolding load hold

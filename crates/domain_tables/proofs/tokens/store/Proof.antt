@@ -7,24 +7,24 @@ use borrow.Author.Needs.{needs}
 use Rattle.domain_tables.proofs.tokens.store.Statement.{statement}
 use Rattle.domain_tables.proofs.tokens.store.Tie as tie
 
-mul-keys : tie.Need-mul-keys
-mul-keys c = search needs
+mul-token-ids : tie.Need-mul-token-ids
+mul-token-ids c = search needs
 
-element-write-keys : tie.Need-element-write-keys
-element-write-keys c = search needs
+element-write-token-ids : tie.Need-element-write-token-ids
+element-write-token-ids c = search needs
 
-element-write-modes : tie.Need-element-write-modes
-element-write-modes c = search needs
+element-write-token-states : tie.Need-element-write-token-states
+element-write-token-states c = search needs
 
-mul-values : tie.Need-mul-values
-mul-values c = search needs
+mul-token-values : tie.Need-mul-token-values
+mul-token-values c = search needs
 
-element-write-values : tie.Need-element-write-values
-element-write-values c = search needs
+element-write-token-values : tie.Need-element-write-token-values
+element-write-token-values c = search needs
 
 returns : tie.Need-returns
 unfolding place store
-returns c = rw (lt-ltb (c .before .args .i) 64 (c .if1 .taken)) (refl, token-set (c .before .args .modes .now) (c .before .args .values .now) (c .before .args .i) (c .before .args .t .mode) (c .before .args .t .value))
+returns c = rw (lt-ltb (c .before .args .i) 64 (c .if1 .taken)) (refl, token-set (c .before .args .token-states .now) (c .before .args .token-values .now) (c .before .args .i) (c .before .args .t .mode) (c .before .args .t .value))
 
 returns-2 : tie.Need-returns-2
 unfolding place store
@@ -34,10 +34,10 @@ pub store-spec : {M : Type 1} → statement M
 store-spec =
     tie.close
     (tie.spec
-    mul-keys
-    element-write-keys
-    element-write-modes
-    mul-values
-    element-write-values
+    mul-token-ids
+    element-write-token-ids
+    element-write-token-states
+    mul-token-values
+    element-write-token-values
     returns
     returns-2)

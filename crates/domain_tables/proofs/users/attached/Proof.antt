@@ -13,22 +13,22 @@ shared-slice-read-if2 c = search needs
 
 returns : tie.Need-returns
 returns c = (
-  sym (attached-here (c .before .before .before .before .before .before .args .names .now) (c .before .before .before .before .before .before .args .homes .now) (c .before .before .before .before .before .before .args .p) (c .before .before .before .before .before .before .args .u) (c .before .before .before .before .find .result)
-      (find-at (c .before .before .before .before .before .before .args .names .now) (c .before .before .before .before .before .before .args .u) (c .before .before .before .before .find .result) (c .before .before .before .before .find .ensures) (search needs)) (search needs) (c .if2 .taken)),
+  sym (attached-here (c .before .before .before .before .before .before .args .user-ids .now) (c .before .before .before .before .before .before .args .user-links .now) (c .before .before .before .before .before .before .args .p) (c .before .before .before .before .before .before .args .u) (c .before .before .before .before .find .result)
+      (find-at (c .before .before .before .before .before .before .args .user-ids .now) (c .before .before .before .before .before .before .args .u) (c .before .before .before .before .find .result) (c .before .before .before .before .find .ensures) (search needs)) (search needs) (c .if2 .taken)),
   search needs,
 )
 
 returns-2 : tie.Need-returns-2
 returns-2 c = (
-  sym (attached-elsewhere (c .before .before .before .before .before .before .args .names .now) (c .before .before .before .before .before .before .args .homes .now) (c .before .before .before .before .before .before .args .p) (c .before .before .before .before .before .before .args .u) (c .before .before .before .before .find .result)
-      (find-at (c .before .before .before .before .before .before .args .names .now) (c .before .before .before .before .before .before .args .u) (c .before .before .before .before .find .result) (c .before .before .before .before .find .ensures) (search needs)) (search needs) (c .if2 .left)),
+  sym (attached-elsewhere (c .before .before .before .before .before .before .args .user-ids .now) (c .before .before .before .before .before .before .args .user-links .now) (c .before .before .before .before .before .before .args .p) (c .before .before .before .before .before .before .args .u) (c .before .before .before .before .find .result)
+      (find-at (c .before .before .before .before .before .before .args .user-ids .now) (c .before .before .before .before .before .before .args .u) (c .before .before .before .before .find .result) (c .before .before .before .before .find .ensures) (search needs)) (search needs) (c .if2 .left)),
   search needs,
 )
 
 returns-3 : tie.Need-returns-3
 returns-3 c = (
-  sym (attached-nowhere (c .before .before .before .before .args .names .now) (c .before .before .before .before .args .homes .now) (c .before .before .before .before .args .p) (c .before .before .before .before .args .u) (c .before .before .find .result)
-      (find-nowhere (c .before .before .before .before .args .names .now) (c .before .before .before .before .args .u) (c .before .before .find .result) (c .before .before .find .ensures) (search needs))),
+  sym (attached-nowhere (c .before .before .before .before .args .user-ids .now) (c .before .before .before .before .args .user-links .now) (c .before .before .before .before .args .p) (c .before .before .before .before .args .u) (c .before .before .find .result)
+      (find-nowhere (c .before .before .before .before .args .user-ids .now) (c .before .before .before .before .args .u) (c .before .before .find .result) (c .before .before .find .ensures) (search needs))),
   search needs,
 )
 

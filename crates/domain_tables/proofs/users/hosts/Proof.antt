@@ -45,7 +45,7 @@ loop-again c =
     let a = c .before .before .before .before .before .before .args in
     let b = c .before .before .before .before .loop in
     let small = lowest-small (b .left) (b .inv .1 .fits) (c .before .before .before .loop-test .taken) in
-    (b .inv .0, rw (c .without-seat .ensures, c .before .with-link .ensures, ← link-is (a .names .now) (a .homes .now) (trailingZeros 64 (b .left)) (omega arith)) (left-next (b .inv .1) small))
+    (b .inv .0, rw (c .without-seat .ensures, c .before .with-link .ensures, ← link-is (a .user-ids .now) (a .user-links .now) (trailingZeros 64 (b .left)) (omega arith)) (left-next (b .inv .1) small))
 
 returns : tie.Need-returns Inv-loop μ-loop
 returns c = left-none (c .before .loop .inv .1) (search needs)

@@ -27,8 +27,8 @@ used-from-requires c κs = search needs
 loop-holds : tie.Need-loop-holds Inv-loop μ-loop
 loop-holds c = let p = c .before .before .before .before .before .before .before .before .before .before .before .before .before in
     let a = p .before .before .args in
-    let f = fate-by (users-of (a .names .now) (a .homes .now)) (a .list .now) (a .gone) (a .live) in
-    sweeps-next no-channel (anywhere f) (channels-start f (a .ids .now) (a .roles .now) (a .chairs .now) (a .guests .now) (a .marks .now) (search needs) (search needs) (search needs) (search needs) (search needs)) _ (c .used-from .ensures) .1
+    let f = fate-by (users-of (a .user-ids .now) (a .user-links .now)) (a .list .now) (a .gone) (a .live) in
+    sweeps-next no-channel (anywhere f) (channels-start f (a .channel-ids .now) (a .channel-kinds .now) (a .managers .now) (a .admitted .now) (a .joined .now) (search needs) (search needs) (search needs) (search needs) (search needs)) _ (c .used-from .ensures) .1
 
 leave-place-requires : tie.Need-leave-place-requires Inv-loop μ-loop
 leave-place-requires c κs = let p = c .before .before .before .before .before .before .before .before .before .before .before .before .before .before .before .before .before .before .before .before in
@@ -43,19 +43,19 @@ used-from-requires-2 c κs = search needs
 loop-less : tie.Need-loop-less Inv-loop μ-loop
 loop-less c = let p = c .before .before .before .before .before .before .before .before .before .before .before .before .before .before .before .before .before .before .before .before .before .before .before .before in
     let a = p .before .before .args in
-    let f = fate-by (users-of (a .names .now) (a .homes .now)) (a .list .now) (a .gone) (a .live) in
+    let f = fate-by (users-of (a .user-ids .now) (a .user-links .now)) (a .list .now) (a .gone) (a .live) in
     omega (arith, sweeps-step no-channel (anywhere f) (c .before .before .before .before .before .before .before .before .before .before .loop .inv) (search needs) (c .before .before .before .leave-place .ensures) _ (c .used-from2 .ensures) .0)
 
 loop-again : tie.Need-loop-again Inv-loop μ-loop
 loop-again c = let p = c .before .before .before .before .before .before .before .before .before .before .before .before .before .before .before .before .before .before .before .before .before .before .before .before in
     let a = p .before .before .args in
-    let f = fate-by (users-of (a .names .now) (a .homes .now)) (a .list .now) (a .gone) (a .live) in
+    let f = fate-by (users-of (a .user-ids .now) (a .user-links .now)) (a .list .now) (a .gone) (a .live) in
     sweeps-step no-channel (anywhere f) (c .before .before .before .before .before .before .before .before .before .before .loop .inv) (search needs) (c .before .before .before .leave-place .ensures) _ (c .used-from2 .ensures) .1
 
 returns : tie.Need-returns Inv-loop μ-loop
 returns c = let p = c .before .before .before .before .before .before .before .before .before .before .before .before .before .before .before in
     let a = p .before .before .args in
-    let f = fate-by (users-of (a .names .now) (a .homes .now)) (a .list .now) (a .gone) (a .live) in
+    let f = fate-by (users-of (a .user-ids .now) (a .user-links .now)) (a .list .now) (a .gone) (a .live) in
     channels-swept f _ _ _ _ _ _ _ _ _ _ _ (c .before .loop .inv) (search needs)
 
 pub leave-spec : {M : Type 1} → statement M

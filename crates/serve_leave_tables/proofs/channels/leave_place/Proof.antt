@@ -17,7 +17,7 @@ element-copy-out-c c = search needs
 
 returns : tie.Need-returns
 returns c = let a = c .before .before .before .before .before .before .before .before .before .before .before .args in
-    turn-free no-channel (anywhere (fate-by (users-of (a .names .now) (a .homes .now)) (a .list .now) (a .gone) (a .live))) _ _ _ (c .if1 .taken)
+    turn-free no-channel (anywhere (fate-by (users-of (a .user-ids .now) (a .user-links .now)) (a .list .now) (a .gone) (a .live))) _ _ _ (c .if1 .taken)
 
 element-copy-out-role : tie.Need-element-copy-out-role
 element-copy-out-role c = search needs
@@ -50,7 +50,7 @@ returns-2 c = let t = c .before .before .before .before .before .before in
     let u = m .before .before .before in
     let s = u .before .before in
     let a = s .before .before .before .before .before .before .before .before .before .args in
-    place-ends (users-of (a .names .now) (a .homes .now)) (a .list .now) (a .gone) (a .live) (a .j) (a .ids .now) (a .roles .now) (a .chairs .now) (a .guests .now) (a .marks .now) (u .if1 .left)
+    place-ends (users-of (a .user-ids .now) (a .user-links .now)) (a .list .now) (a .gone) (a .live) (a .j) (a .channel-ids .now) (a .channel-kinds .now) (a .managers .now) (a .admitted .now) (a .joined .now) (u .if1 .left)
     (omega (arith, s)) (omega (arith, s)) (omega (arith, s)) (omega (arith, s)) (m .common-links .result) (m .common-links .ensures) _ _ (l .is-listed .ensures) (t .before .ends .ensures) _ _ _ _ _ (t .if2 .taken) (c .end-channel .ensures)
 
 stay-requires : tie.Need-stay-requires
@@ -63,7 +63,7 @@ returns-3 c = let t = c .before .before .before .before in
     let u = m .before .before .before in
     let s = u .before .before in
     let a = s .before .before .before .before .before .before .before .before .before .args in
-    place-stays (users-of (a .names .now) (a .homes .now)) (a .list .now) (a .gone) (a .live) (a .j) (a .ids .now) (a .roles .now) (a .chairs .now) (a .guests .now) (a .marks .now) (u .if1 .left)
+    place-stays (users-of (a .user-ids .now) (a .user-links .now)) (a .list .now) (a .gone) (a .live) (a .j) (a .channel-ids .now) (a .channel-kinds .now) (a .managers .now) (a .admitted .now) (a .joined .now) (u .if1 .left)
     (omega (arith, s)) (omega (arith, s)) (omega (arith, s)) (omega (arith, s)) (m .common-links .result) (m .common-links .ensures) _ _ (l .is-listed .ensures) (t .before .ends .ensures) _ _ (t .if2 .left) (c .stay .ensures)
 
 pub leave-place-spec : {M : Type 1} → statement M

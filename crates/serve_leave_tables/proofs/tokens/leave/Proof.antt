@@ -21,7 +21,7 @@ used-from-requires c κs = search needs
 
 loop-holds : tie.Need-loop-holds Inv-loop μ-loop
 loop-holds c = let a = c .before .before .before .before .before .before .before .before .before .args in
-    sweeps-next no-token (loses _) (tokens-start (a .gone) (a .keys .now) (a .modes .now) (a .values .now) (search needs) (search needs) (search needs)) _ (c .used-from .ensures) .1
+    sweeps-next no-token (loses _) (tokens-start (a .gone) (a .token-ids .now) (a .token-states .now) (a .token-values .now) (search needs) (search needs) (search needs)) _ (c .used-from .ensures) .1
 
 leave-place-requires : tie.Need-leave-place-requires Inv-loop μ-loop
 leave-place-requires c κs = search needs

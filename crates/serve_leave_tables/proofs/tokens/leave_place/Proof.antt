@@ -36,32 +36,32 @@ lose-requires c κs = search needs
 new-token-requires : tie.Need-new-token-requires
 new-token-requires c κs = search needs
 
-element-write-modes : tie.Need-element-write-modes
-element-write-modes c = search needs
+element-write-token-states : tie.Need-element-write-token-states
+element-write-token-states c = search needs
 
-mul-values : tie.Need-mul-values
-mul-values c = search needs
+mul-token-values : tie.Need-mul-token-values
+mul-token-values c = search needs
 
-element-write-values : tie.Need-element-write-values
-element-write-values c = search needs
+element-write-token-values : tie.Need-element-write-token-values
+element-write-token-values c = search needs
 
 free-requires : tie.Need-free-requires
 free-requires c κs = search needs
 
-mul-keys : tie.Need-mul-keys
-mul-keys c = search needs
+mul-token-ids : tie.Need-mul-token-ids
+mul-token-ids c = search needs
 
-element-write-keys : tie.Need-element-write-keys
-element-write-keys c = search needs
+element-write-token-ids : tie.Need-element-write-token-ids
+element-write-token-ids c = search needs
 
 returns-2 : tie.Need-returns-2
 returns-2 c = let a = c .before .before .before .before .before .before .before .before .before .before .before .before .before .args in
-    token-ends (a .gone) (a .j) (a .keys .now) (a .modes .now) (a .values .now) (omega arith) (omega arith) (c .before .before .before .before .before .before .before .if1 .left) (c .before .before .before .lose .result) (c .before .before .before .lose .ensures ∙ ap (lose (a .gone)) (c .before .before .before .before .holding-of .ensures))
+    token-ends (a .gone) (a .j) (a .token-ids .now) (a .token-states .now) (a .token-values .now) (omega arith) (omega arith) (c .before .before .before .before .before .before .before .if1 .left) (c .before .before .before .lose .result) (c .before .before .before .lose .ensures ∙ ap (lose (a .gone)) (c .before .before .before .before .holding-of .ensures))
     (c .before .before .new-token .result) (c .before .before .new-token .ensures) (sym (c .before .free .ensures) ∙ c .if2 .taken)
 
 returns-3 : tie.Need-returns-3
 returns-3 c = let a = c .before .before .before .before .before .before .before .before .before .before .before .before .before .args in
-    token-stays (a .gone) (a .j) (a .keys .now) (a .modes .now) (a .values .now) (omega arith) (omega arith) (c .before .before .before .before .before .before .before .if1 .left) (c .before .before .before .lose .result) (c .before .before .before .lose .ensures ∙ ap (lose (a .gone)) (c .before .before .before .before .holding-of .ensures))
+    token-stays (a .gone) (a .j) (a .token-ids .now) (a .token-states .now) (a .token-values .now) (omega arith) (omega arith) (c .before .before .before .before .before .before .before .if1 .left) (c .before .before .before .lose .result) (c .before .before .before .lose .ensures ∙ ap (lose (a .gone)) (c .before .before .before .before .holding-of .ensures))
     (c .before .before .new-token .result) (c .before .before .new-token .ensures) (sym (c .before .free .ensures) ∙ c .if2 .left)
 
 pub leave-place-spec : {M : Type 1} → statement M
@@ -77,11 +77,11 @@ leave-place-spec =
     holding-of-requires
     lose-requires
     new-token-requires
-    element-write-modes
-    mul-values
-    element-write-values
+    element-write-token-states
+    mul-token-values
+    element-write-token-values
     free-requires
-    mul-keys
-    element-write-keys
+    mul-token-ids
+    element-write-token-ids
     returns-2
     returns-3)

@@ -14,14 +14,14 @@ element-copy-out-if1 c = search needs
 returns : tie.Need-returns
 returns c = turn-free 0 ends _ _ _ (c .if1 .taken)
 
-mul-names : tie.Need-mul-names
-mul-names c = search needs
+mul-user-ids : tie.Need-mul-user-ids
+mul-user-ids c = search needs
 
-element-write-names : tie.Need-element-write-names
-element-write-names c = search needs
+element-write-user-ids : tie.Need-element-write-user-ids
+element-write-user-ids c = search needs
 
-element-write-homes : tie.Need-element-write-homes
-element-write-homes c = search needs
+element-write-user-links : tie.Need-element-write-user-links
+element-write-user-links c = search needs
 
 returns-2 : tie.Need-returns-2
 returns-2 c = turn-ends 0 ends _ _ _ (c .if1 .left) refl
@@ -33,7 +33,7 @@ leave-place-spec =
     mul-if1
     element-copy-out-if1
     returns
-    mul-names
-    element-write-names
-    element-write-homes
+    mul-user-ids
+    element-write-user-ids
+    element-write-user-links
     returns-2)
