@@ -3,7 +3,8 @@ ghost use mathlib.Core.Path.{_≡_};
 ghost use mathlib.Core.List.{List};
 ghost use Prim.Native.Nat.{ℕ};
 ghost use Rattle.cols_spec.specs.Places.{used};
-ghost use Rattle.domain.specs.Tables.{Domain, channels-of, domain-of};
+ghost use Rattle.domain.specs.Tables.{Domain};
+ghost use Rattle.domain.specs.Lent.{channels-before, domain-after, domain-before};
 ghost use Rattle.domain.specs.Numbers.{replyNumber};
 ghost use Rattle.domain.specs.Effects.{settled};
 ghost use Rattle.domain.specs.Events.{opens, loses, hears};
@@ -42,11 +43,9 @@ pub fn start<'a>(
 ) -> u32
     ensures { λ r. ⌜ _≡_ {A = ℕ × Domain} (
       r,
-      domain-of (limited (now (channels .exit)) (now (users .exit)) (now (tokens .exit))) (now (links .exit)) (now («user_ids» .exit)) (now («user_links» .exit)) (now («channel_ids» .exit)) (now («channel_kinds» .exit))
-          (now (managers .exit)) (now (admitted .exit)) (now (joined .exit)) (now («token_ids» .exit)) (now («token_states» .exit)) (now («token_values» .exit)),
+      domain-after (limited (now (channels .exit)) (now (users .exit)) (now (tokens .exit))) links «user_ids» «user_links» «channel_ids» «channel_kinds» managers admitted joined «token_ids» «token_states» «token_values»,
     )
-        (begun «most_channels» «most_users» «most_tokens» (domain-of (limited (now (channels .entry)) (now (users .entry)) (now (tokens .entry))) (now (links .entry)) (now («user_ids» .entry)) (now («user_links» .entry)) (now («channel_ids» .entry)) (now («channel_kinds» .entry))
-        (now (managers .entry)) (now (admitted .entry)) (now (joined .entry)) (now («token_ids» .entry)) (now («token_states» .entry)) (now («token_values» .entry)))) ⌝ }
+        (begun «most_channels» «most_users» «most_tokens» (domain-before (limited (now (channels .entry)) (now (users .entry)) (now (tokens .entry))) links «user_ids» «user_links» «channel_ids» «channel_kinds» managers admitted joined «token_ids» «token_states» «token_values»)) ⌝ }
 {
     let s = serve_session::start(
         most_channels,
@@ -93,10 +92,8 @@ pub fn open<'a>(
     token_values: &'a mut [u64; 64],
     p: u8,
 ) -> u32
-    ensures { λ r. ⌜ ((out : List ℕ) → settled r 0 (domain-of (limited (now (channels .exit)) (now (users .exit)) (now (tokens .exit))) (now (links .exit)) (now («user_ids» .exit)) (now («user_links» .exit)) (now («channel_ids» .exit)) (now («channel_kinds» .exit))
-        (now (managers .exit)) (now (admitted .exit)) (now (joined .exit)) (now («token_ids» .exit)) (now («token_states» .exit)) (now («token_values» .exit))) out
-        ≡ after (domain-of (limited (now (channels .entry)) (now (users .entry)) (now (tokens .entry))) (now (links .entry)) (now («user_ids» .entry)) (now («user_links» .entry)) (now («channel_ids» .entry)) (now («channel_kinds» .entry))
-        (now (managers .entry)) (now (admitted .entry)) (now (joined .entry)) (now («token_ids» .entry)) (now («token_states» .entry)) (now («token_values» .entry))) (opens p) out) ⌝ }
+    ensures { λ r. ⌜ ((out : List ℕ) → settled r 0 (domain-after (limited (now (channels .exit)) (now (users .exit)) (now (tokens .exit))) links «user_ids» «user_links» «channel_ids» «channel_kinds» managers admitted joined «token_ids» «token_states» «token_values») out
+        ≡ after (domain-before (limited (now (channels .entry)) (now (users .entry)) (now (tokens .entry))) links «user_ids» «user_links» «channel_ids» «channel_kinds» managers admitted joined «token_ids» «token_states» «token_values») (opens p) out) ⌝ }
 {
     let reply = serve_session::open(links, p);
     reply_number(reply) as u32
@@ -121,10 +118,8 @@ pub fn lose<'a>(
     p: u8,
     out: &mut [u8],
 ) -> Answered
-    ensures { λ r. ⌜ settled (r .reply) (r .sent) (domain-of (limited (now (channels .exit)) (now (users .exit)) (now (tokens .exit))) (now (links .exit)) (now («user_ids» .exit)) (now («user_links» .exit)) (now («channel_ids» .exit)) (now («channel_kinds» .exit))
-        (now (managers .exit)) (now (admitted .exit)) (now (joined .exit)) (now («token_ids» .exit)) (now («token_states» .exit)) (now («token_values» .exit))) (now (out .exit))
-        ≡ after (domain-of (limited (now (channels .entry)) (now (users .entry)) (now (tokens .entry))) (now (links .entry)) (now («user_ids» .entry)) (now («user_links» .entry)) (now («channel_ids» .entry)) (now («channel_kinds» .entry))
-        (now (managers .entry)) (now (admitted .entry)) (now (joined .entry)) (now («token_ids» .entry)) (now («token_states» .entry)) (now («token_values» .entry))) (loses p) (now (out .entry)) ⌝ }
+    ensures { λ r. ⌜ settled (r .reply) (r .sent) (domain-after (limited (now (channels .exit)) (now (users .exit)) (now (tokens .exit))) links «user_ids» «user_links» «channel_ids» «channel_kinds» managers admitted joined «token_ids» «token_states» «token_values») (now (out .exit))
+        ≡ after (domain-before (limited (now (channels .entry)) (now (users .entry)) (now (tokens .entry))) links «user_ids» «user_links» «channel_ids» «channel_kinds» managers admitted joined «token_ids» «token_states» «token_values») (loses p) (now (out .entry)) ⌝ }
 {
     let a = provider::lose(
         links,
@@ -164,10 +159,8 @@ pub fn message<'a>(
     octets: &[u8],
     out: &mut [u8],
 ) -> Answered
-    ensures { λ r. ⌜ settled (r .reply) (r .sent) (domain-of (limited (now (channels .exit)) (now (users .exit)) (now (tokens .exit))) (now (links .exit)) (now («user_ids» .exit)) (now («user_links» .exit)) (now («channel_ids» .exit)) (now («channel_kinds» .exit))
-        (now (managers .exit)) (now (admitted .exit)) (now (joined .exit)) (now («token_ids» .exit)) (now («token_states» .exit)) (now («token_values» .exit))) (now (out .exit))
-        ≡ after (domain-of (limited (now (channels .entry)) (now (users .entry)) (now (tokens .entry))) (now (links .entry)) (now («user_ids» .entry)) (now («user_links» .entry)) (now («channel_ids» .entry)) (now («channel_kinds» .entry))
-        (now (managers .entry)) (now (admitted .entry)) (now (joined .entry)) (now («token_ids» .entry)) (now («token_states» .entry)) (now («token_values» .entry))) (hears p (understood (now (octets .entry)))) (now (out .entry)) ⌝ }
+    ensures { λ r. ⌜ settled (r .reply) (r .sent) (domain-after (limited (now (channels .exit)) (now (users .exit)) (now (tokens .exit))) links «user_ids» «user_links» «channel_ids» «channel_kinds» managers admitted joined «token_ids» «token_states» «token_values») (now (out .exit))
+        ≡ after (domain-before (limited (now (channels .entry)) (now (users .entry)) (now (tokens .entry))) links «user_ids» «user_links» «channel_ids» «channel_kinds» managers admitted joined «token_ids» «token_states» «token_values») (hears p (understood (now (octets .entry)))) (now (out .entry)) ⌝ }
 {
     let limits = Limits {
         channels: *channels,
@@ -214,7 +207,7 @@ pub fn audience<'a>(
     joined: &'a [u16; 128],
     c: u16,
 ) -> u32
-    ensures { λ r. ⌜ r ≡ audienceOf (channels-of (now («channel_ids» .entry)) (now («channel_kinds» .entry)) (now (managers .entry)) (now (admitted .entry)) (now (joined .entry))) c ⌝ }
+    ensures { λ r. ⌜ r ≡ audienceOf (channels-before «channel_ids» «channel_kinds» managers admitted joined) c ⌝ }
 {
     serve_session::audience(channel_ids, channel_kinds, managers, admitted, joined, c)
 }

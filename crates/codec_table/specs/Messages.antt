@@ -50,8 +50,8 @@ channel = item (anId 0)
 abbrev pub user : Field
 user = item (anId 1001)
 
-abbrev pub private : Field
-private = item (anId 1001)
+abbrev pub private-channel : Field
+private-channel = item (anId 1001)
 
 abbrev pub token : Field
 token = item (anId 1)
@@ -88,13 +88,13 @@ table =
     (down, optional (result ∷ user ∷ channel ∷ []) channel) ∷  -- 15 CJcf
     (served, plain [] channels) ∷  -- 16 CLrq
     (served, plain (user ∷ []) nothing) ∷  -- 17 CCrq
-    (down, optional (result ∷ user ∷ []) private) ∷  -- 18 CCcf
-    (served, plain (user ∷ private ∷ []) nothing) ∷  -- 19 CDrq
-    (down, plain (private ∷ []) nothing) ∷  -- 20 CDin
-    (served, plain (user ∷ private ∷ []) users) ∷  -- 21 CArq
-    (down, plain (user ∷ private ∷ []) users) ∷  -- 22 CAin
-    (served, plain (user ∷ private ∷ []) users) ∷  -- 23 CErq
-    (down, plain (private ∷ []) users) ∷  -- 24 CEin
+    (down, optional (result ∷ user ∷ []) private-channel) ∷  -- 18 CCcf
+    (served, plain (user ∷ private-channel ∷ []) nothing) ∷  -- 19 CDrq
+    (down, plain (private-channel ∷ []) nothing) ∷  -- 20 CDin
+    (served, plain (user ∷ private-channel ∷ []) users) ∷  -- 21 CArq
+    (down, plain (user ∷ private-channel ∷ []) users) ∷  -- 22 CAin
+    (served, plain (user ∷ private-channel ∷ []) users) ∷  -- 23 CErq
+    (down, plain (private-channel ∷ []) users) ∷  -- 24 CEin
     (up, uncovered) ∷  -- 25 SDrq
     (down, uncovered) ∷  -- 26 SDin
     (up, uncovered) ∷  -- 27 USrq

@@ -1,4 +1,4 @@
-// Where an id stands in a column. A place whose id is 0 is free. A place that is nowhere is answered as the column's length.
+// Where an id stands in a column, and how many places are in use. A place whose id is 0 is free. A place that is nowhere is answered as the column's length.
 ghost use mathlib.Core.Path.{_≡_};
 ghost use Prim.Native.Nat.{_+_, _<_, _≤_, _-_};
 ghost use mathlib.Core.Bool.{true};
@@ -124,8 +124,6 @@ pub fn spare(ids: &[u16]) -> usize
 {
     first(ids, 0, true)
 }
-
-// How many places of a column of ids are in use. A place whose id is 0 is free.
 
 // A place counts if its id is not 0.
 fn in_use(x: u16) -> u16

@@ -1,7 +1,7 @@
 // A mask is a number that stands for a set of small numbers: connections 0 to 15, or user places 0 to 63.
 ghost use mathlib.Core.Path.{_≡_};
 ghost use lib.ListN.{length};
-ghost use Rattle.cols_spec.specs.Sets.{has as hasIn, with as withOf, without as withoutOf, only as onlyOf, meet as meetOf, minus as minusOf, union as unionOf, listed, links, seats, NextIn};
+ghost use Rattle.cols_spec.specs.Sets.{has as hasIn, with as withOf, without as withoutOf, only as onlyOf, meet as meetOf, minus as minusOf, union as unionOf, listed, connections, seats, NextIn};
 
 // The mask has k.
 pub fn has(m: u64, k: u8) -> bool
@@ -29,7 +29,7 @@ pub fn next_in(m: u64, from: usize) -> usize
 
 // Connection k alone; the mask with it; the mask without it.
 pub fn link(k: u8) -> u16
-    ensures { λ r. ⌜ r ≡ onlyOf links k ⌝ }
+    ensures { λ r. ⌜ r ≡ onlyOf connections k ⌝ }
 {
     if k < 16 {
         return 1u16 << k;
@@ -38,27 +38,27 @@ pub fn link(k: u8) -> u16
 }
 
 pub fn with_link(m: u16, k: u8) -> u16
-    ensures { λ r. ⌜ r ≡ withOf links m k ⌝ }
+    ensures { λ r. ⌜ r ≡ withOf connections m k ⌝ }
 {
     m | link(k)
 }
 
 pub fn without_link(m: u16, k: u8) -> u16
-    ensures { λ r. ⌜ r ≡ withoutOf links m k ⌝ }
+    ensures { λ r. ⌜ r ≡ withoutOf connections m k ⌝ }
 {
     m & (m ^ link(k))
 }
 
 // The connections of both masks.
 pub fn common_links(m: u16, n: u16) -> u16
-    ensures { λ r. ⌜ r ≡ meetOf links m n ⌝ }
+    ensures { λ r. ⌜ r ≡ meetOf connections m n ⌝ }
 {
     m & n
 }
 
 // How many connections the mask has: a channel's audience.
 pub fn count_links(m: u16) -> u32
-    ensures { λ r. ⌜ r ≡ length (listed links m) ⌝ }
+    ensures { λ r. ⌜ r ≡ length (listed connections m) ⌝ }
 {
     u16::count_ones(m)
 }

@@ -12,7 +12,7 @@ use lib.ListN.{length, getD, take, drop, length-take}
 use lib.Pow.{pow-pos}
 use lib.Seq.{take-add, take-all, take-suc, getD-take, getD-drop}
 use borrow.Author.Tests.{eq-eqb, ne-eqb, eqb-true, eqb-false, ltb-true, ltb-false}
-use Rattle.cols_spec.specs.Sets.{any, member, has, those, those-from, only, minus, marked, Gap}
+use Rattle.cols_spec.specs.Sets.{any, member, has, those, those-from, only, minus, ids-above, Gap}
 use Rattle.cols_spec.specs.Places.{InRow, find, found, unused}
 use Rattle.cols_spec.proofs.Digits.{has-zero, has-suc, has-or, has-those, has-only, those-lt, only-lt, is-those, shl-only}
 use Rattle.cols_spec.proofs.Marks.{has-none}
@@ -24,40 +24,40 @@ use Rattle.cols_spec.proofs.Turns.{unused-here, unused-later}
 -- ---- the mask of a list: of one behind another, of places that are free, of one id
 
 module _ (low : ℕ) where
-  pub has-marked : (xs : List ℕ) (k : ℕ) → k < 64 → has (marked low xs) k ≡ member (low + 1 + k) xs
-  unfolding marked
+  pub has-marked : (xs : List ℕ) (k : ℕ) → k < 64 → has (ids-above low xs) k ≡ member (low + 1 + k) xs
+  unfolding ids-above
   has-marked xs k l = has-those 64 _ k l
 
-  is-marked : (m : ℕ) (xs : List ℕ) → m < 2 ^ 64 → ((k : ℕ) → k < 64 → has m k ≡ member (low + 1 + k) xs) → m ≡ marked low xs
-  unfolding marked
+  is-marked : (m : ℕ) (xs : List ℕ) → m < 2 ^ 64 → ((k : ℕ) → k < 64 → has m k ≡ member (low + 1 + k) xs) → m ≡ ids-above low xs
+  unfolding ids-above
   is-marked m xs l h = is-those 64 m _ l h
 
-  pub marked-lt : (xs : List ℕ) → marked low xs < 2 ^ 64
-  unfolding marked
+  pub marked-lt : (xs : List ℕ) → ids-above low xs < 2 ^ 64
+  unfolding ids-above
   marked-lt xs = those-lt 64 _
 
-  pub marked-append : (xs ys : List ℕ) → bitOr (marked low xs) (marked low ys) ≡ marked low (xs ++ ys)
+  pub marked-append : (xs ys : List ℕ) → bitOr (ids-above low xs) (ids-above low ys) ≡ ids-above low (xs ++ ys)
   marked-append xs ys = is-marked _ (xs ++ ys) (or-lt 64 _ _ (marked-lt xs) (marked-lt ys)) (λ k l.
-      has-or (marked low xs) (marked low ys) k ∙ ap₂ (λ (p q : Bool). p || q) (has-marked xs k l) (has-marked ys k l) ∙ sym (member-append (low + 1 + k) xs ys))
+      has-or (ids-above low xs) (ids-above low ys) k ∙ ap₂ (λ (p q : Bool). p || q) (has-marked xs k l) (has-marked ys k l) ∙ sym (member-append (low + 1 + k) xs ys))
 
   -- the code's `or`: with the next place, with the next n places; and at the end
   module _ (ids : List ℕ) (i : ℕ) where
-    pub marked-one : i < length ids → bitOr (marked low (take i ids)) (marked low (getD ids i 0 ∷ [])) ≡ marked low (take (suc i) ids)
-    marked-one l = marked-append (take i ids) (getD ids i 0 ∷ []) ∙ ap (marked low) (sym (take-suc ids i 0 l))
+    pub marked-one : i < length ids → bitOr (ids-above low (take i ids)) (ids-above low (getD ids i 0 ∷ [])) ≡ ids-above low (take (suc i) ids)
+    marked-one l = marked-append (take i ids) (getD ids i 0 ∷ []) ∙ ap (ids-above low) (sym (take-suc ids i 0 l))
 
-    pub marked-part : (n : ℕ) → bitOr (marked low (take i ids)) (marked low (take n (drop i ids))) ≡ marked low (take (i + n) ids)
-    marked-part n = marked-append (take i ids) (take n (drop i ids)) ∙ ap (marked low) (sym (take-add i n ids))
+    pub marked-part : (n : ℕ) → bitOr (ids-above low (take i ids)) (ids-above low (take n (drop i ids))) ≡ ids-above low (take (i + n) ids)
+    marked-part n = marked-append (take i ids) (take n (drop i ids)) ∙ ap (ids-above low) (sym (take-add i n ids))
 
-    pub marked-end : length ids ≤ i → marked low (take i ids) ≡ marked low ids
-    marked-end l = ap (marked low) (take-all i ids l)
+    pub marked-end : length ids ≤ i → ids-above low (take i ids) ≡ ids-above low ids
+    marked-end l = ap (ids-above low) (take-all i ids l)
 
-    pub marked-free : (n : ℕ) → InRow ids i n 0 0 → 0 ≡ marked low (take n (drop i ids))
+    pub marked-free : (n : ℕ) → InRow ids i n 0 0 → 0 ≡ ids-above low (take n (drop i ids))
     marked-free n row = is-marked 0 _ (pow-pos 64) (λ k l. has-none k ∙ sym (member-none (take n (drop i ids)) (low + 1 + k) (λ j e.
         let b = in-list (take n (drop i ids)) j (omega arith) in
         let s : j < n = omega (arith, length-take n (drop i ids)) in
         omega (arith, row j s, e, getD-take n (drop i ids) j 0 s, getD-drop i ids j 0))))
 
-  pub marked-none : 0 ≡ marked low []
+  pub marked-none : 0 ≡ ids-above low []
   unfolding member any
   marked-none = is-marked 0 [] (pow-pos 64) (λ k l. has-none k)
 
@@ -70,7 +70,7 @@ module _ (low : ℕ) where
         go true e = ltb-true low x e
         go false e = absurd (omega (arith, round (ltb-false low x e)))
 
-    pub mark-near : k < 64 → (1 * 2 ^ k) % 2 ^ 64 ≡ marked low (x ∷ [])
+    pub mark-near : k < 64 → (1 * 2 ^ k) % 2 ^ 64 ≡ ids-above low (x ∷ [])
     unfolding member any
     mark-near l = shl-only 64 k l ∙ is-marked (only 64 k) (x ∷ []) (only-lt 64 k) (λ j b. has-only 64 k j b ∙ go j (eqb k j) refl)
       where
@@ -78,7 +78,7 @@ module _ (low : ℕ) where
         go j true e = e ∙ rw (eq-eqb (low + 1 + j) x (omega (arith, far (above l), eqb-true k j e)))
         go j false e = e ∙ rw (ne-eqb (low + 1 + j) x (λ q. eqb-false k j e (omega (arith, far (above l)))))
 
-    pub mark-far : 64 ≤ k → 0 ≡ marked low (x ∷ [])
+    pub mark-far : 64 ≤ k → 0 ≡ ids-above low (x ∷ [])
     unfolding member any
     mark-far l = is-marked 0 (x ∷ []) (pow-pos 64) (λ j b. has-none j ∙ rw (ne-eqb (low + 1 + j) x (λ q. omega (arith, far (omega arith)))))
 
@@ -163,7 +163,7 @@ gap-of m n e = gap-same (λ k l. ap not (ap (λ (x : ℕ). has x k) e ∙ has-th
 
 module _ (ids : List ℕ) (low : ℕ) where
   -- of the 64 above `low`, by their mask; of 128, by two masks
-  pub gap-marked : {m r : ℕ} → m ≡ marked low ids → Gap (has m) 64 r → Gap (λ k. member (low + 1 + k) ids) 64 r
+  pub gap-marked : {m r : ℕ} → m ≡ ids-above low ids → Gap (has m) 64 r → Gap (λ k. member (low + 1 + k) ids) 64 r
   gap-marked e p = gap-same (λ k l. ap (λ (x : ℕ). has x k) e ∙ has-marked low ids k l) p
 
   pub gap-next : {a b : ℕ} → 64 ≤ a → Gap (λ k. member (low + 1 + k) ids) 64 a → Gap (λ k. member (low + 64 + 1 + k) ids) 64 b

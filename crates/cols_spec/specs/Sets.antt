@@ -66,8 +66,8 @@ unfoldable pub those : ℕ → (ℕ → Bool) → ℕ
 those w f = those-from 0 w f
 
 -- the numbers of connections and of user places: the widths of the two kinds of mask
-abbrev pub links : ℕ
-links = 16
+abbrev pub connections : ℕ
+connections = 16
 
 abbrev pub seats : ℕ
 seats = 64
@@ -97,8 +97,8 @@ unfoldable pub listed : ℕ → ℕ → List ℕ
 listed w m = keep (has m) (below w)
 
 -- the mask of those of the 64 ids above `low` that are in a list
-unfoldable pub marked : (low : ℕ) (xs : List ℕ) → ℕ
-marked low xs = those seats λ k. member (low + 1 + k) xs
+unfoldable pub ids-above : (low : ℕ) (xs : List ℕ) → ℕ
+ids-above low xs = those seats λ k. member (low + 1 + k) xs
 
 -- r is the first number below n that does not pass, or n
 pub record Gap (f : (ℕ → Bool)) (n r : ℕ) : Type 0 where

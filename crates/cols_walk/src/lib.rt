@@ -5,7 +5,7 @@ ghost use mathlib.Core.List.{[], _∷_};
 ghost use Prim.Native.Nat.{ℕ, _+_, _-_, _*_, _<_, _≤_, min};
 ghost use lib.Dec.{eqb};
 ghost use lib.ListN.{length, take, drop, getD};
-ghost use Rattle.cols_spec.specs.Sets.{if_then_else_, member as memberOf, has as hasIn, marked, Gap};
+ghost use Rattle.cols_spec.specs.Sets.{if_then_else_, member as memberOf, has as hasIn, ids-above, Gap};
 ghost use Rattle.cols_spec.specs.Places.{first as firstIn, busy, InRow, next as nextIn, number, picked, unused as unusedIn};
 
 // The two, four, eight places from i on hold x, x + step and so on. No branch stands between them here either.
@@ -237,7 +237,7 @@ fn in_row(ids: &[u16]) -> usize
 
 // The mark of an id in the mask of the 64 ids above `low`: none where it is not one of them. A choice, and no branch.
 pub fn mark(low: u16, x: u16) -> u64
-    ensures { λ r. ⌜ (low + 64 ≤ 65535 → r ≡ marked low (x ∷ [])) ⌝ }
+    ensures { λ r. ⌜ (low + 64 ≤ 65535 → r ≡ ids-above low (x ∷ [])) ⌝ }
 {
     let k = behind(low, x);
     if k < 64 { 1u64 << k } else { 0 }
@@ -246,7 +246,7 @@ pub fn mark(low: u16, x: u16) -> u64
 // The marks of all places, one by one.
 fn marks_of(ids: &[u16], low: u16) -> u64
     requires { ⌜ low + 64 ≤ 65535 ⌝ }
-    ensures { λ r. ⌜ r ≡ marked low (now (ids .entry)) ⌝ }
+    ensures { λ r. ⌜ r ≡ ids-above low (now (ids .entry)) ⌝ }
 {
     let mut m: u64 = 0;
     let mut i = 0;
@@ -259,7 +259,7 @@ fn marks_of(ids: &[u16], low: u16) -> u64
 
 // Which of the ids 1001 to 1064 are in a list.
 pub fn id_marks(ids: &[u16]) -> u64
-    ensures { λ r. ⌜ r ≡ marked 1000 (now (ids .entry)) ⌝ }
+    ensures { λ r. ⌜ r ≡ ids-above 1000 (now (ids .entry)) ⌝ }
 {
     marks_of(ids, 1000)
 }
@@ -267,7 +267,7 @@ pub fn id_marks(ids: &[u16]) -> u64
 // The same of eight that may be free, and eight at a time.
 fn marks_of_eight(ids: &[u16], i: usize, low: u16) -> u64
     requires { ⌜ (i + 8 ≤ length (now ids)) × (low + 64 ≤ 65535) ⌝ }
-    ensures { λ r. ⌜ r ≡ marked low (take 8 (drop i (now (ids .entry)))) ⌝ }
+    ensures { λ r. ⌜ r ≡ ids-above low (take 8 (drop i (now (ids .entry)))) ⌝ }
 {
     if row_of_eight(ids, i, 0, 0) {
         return 0;
@@ -278,7 +278,7 @@ fn marks_of_eight(ids: &[u16], i: usize, low: u16) -> u64
 
 fn marks(ids: &[u16], low: u16) -> u64
     requires { ⌜ low + 64 ≤ 65535 ⌝ }
-    ensures { λ r. ⌜ r ≡ marked low (now (ids .entry)) ⌝ }
+    ensures { λ r. ⌜ r ≡ ids-above low (now (ids .entry)) ⌝ }
 {
     let mut m: u64 = 0;
     let mut i = 0;

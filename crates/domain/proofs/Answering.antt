@@ -6,7 +6,7 @@ use mathlib.Core.Option.{Option, none, some}
 use Prim.Native.Nat.{ℕ, zero, suc}
 use lib.Dec.{eqb, ltb}
 use lib.ListN.{length}
-use Rattle.cols_spec.specs.Sets.{if_then_else_, all, any, null, once, has, with, links, seats}
+use Rattle.cols_spec.specs.Sets.{if_then_else_, all, any, null, once, has, with, connections, seats}
 use Rattle.cols_spec.specs.Places.{Place, At, Nowhere, find}
 use Rattle.codec_table.specs.Named.{Message, EDrq, DPum, RJum, AUrq, AUcf, DUrq, DUin, CJrq, CJcf, CLrq, CCrq, CCcf, CDrq, CDin, CArq, CAin, CErq, CEin}
 use Rattle.codec_table.specs.Named.{TGrq, TGcf, TIrq, TIcf, TVrq, TVin, TVrs, TVcf, TPrq, TPin, TRrq, TRcf, TTrq, TTcf, successful, no-such-channel, too-many-channels, no-such-user}
@@ -232,7 +232,7 @@ module _ (pass : Sent → Bool) (law : Passes pass) where
   unfolding step-with answers sends
   step-all new d (opens p) room = go (ltb 15 p) (has (d .links) p)
     where
-      go : (a b : Bool) → all pass ((if a then stays d 2 else if b then stays d 3 else record { reply = 0; domain = put-links d (with links (d .links) p); sent = [] }) .sent) ≡ true
+      go : (a b : Bool) → all pass ((if a then stays d 2 else if b then stays d 3 else record { reply = 0; domain = put-links d (with connections (d .links) p); sent = [] }) .sent) ≡ true
       go true b = none-all pass
       go false true = none-all pass
       go false false = none-all pass

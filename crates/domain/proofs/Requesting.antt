@@ -10,9 +10,9 @@ use Rattle.codec_table.specs.Named.{Message}
 use Rattle.out_records.specs.Records.{Sent, records}
 use Rattle.domain.specs.declared.Limits.{Limits}
 use Rattle.domain.specs.Tables.{Users, Channels, Tokens, Domain, put-channels, put-tokens, put-both, grant}
-use Rattle.domain.specs.Effects.{Effect, ignored, done, within, Settled, settled, sends, settle}
+use Rattle.domain.specs.Effects.{Effect, ignored, done, within, Settled, settled, delivers, settle}
 use Rattle.domain.specs.Events.{act}
-use Rattle.domain.specs.Joined.{joined}
+use Rattle.domain.specs.Assembled.{assembled}
 
 -- the same answer, of tables that hold others too
 module _ {A B : Type 0} (put : A → B) where
@@ -20,7 +20,7 @@ module _ {A B : Type 0} (put : A → B) where
   also s = settled (s .reply) (s .sent) (put (s .tables)) (s .room)
 
   also-settled : (a : A) (x : Effect A) (out : List ℕ) → also (settle a x out) ≡ settle (put a) (within put x) out
-  unfolding also settle within sends
+  unfolding also settle within delivers
   also-settled a ignored out = refl
   also-settled a (done b rs) out = go (ltb (length out) (length (records rs)))
     where
@@ -36,18 +36,18 @@ module _ {A B : Type 0} (put : A → B) where
 
 -- where the request is of one table
 module _ (l : Limits) (m : ℕ) (us : Users) (cs : Channels) (ts : Tokens) (new p : ℕ) (q : Message) (out : List ℕ) where
-  of-domain : (x : Effect Domain) → act new (joined l m us cs ts) p q ≡ x → settle (joined l m us cs ts) x out ≡ settle (joined l m us cs ts) (act new (joined l m us cs ts) p q) out
-  of-domain x f = ap (λ (y : Effect Domain). settle (joined l m us cs ts) y out) (sym f)
+  of-domain : (x : Effect Domain) → act new (assembled l m us cs ts) p q ≡ x → settle (assembled l m us cs ts) x out ≡ settle (assembled l m us cs ts) (act new (assembled l m us cs ts) p q) out
+  of-domain x f = ap (λ (y : Effect Domain). settle (assembled l m us cs ts) y out) (sym f)
 
-  pub on-tokens : {n k : ℕ} {o : List ℕ} {t : Tokens} (x : Effect Tokens) → settled n k t o ≡ settle ts x out → act new (joined l m us cs ts) p q ≡ within (put-tokens (joined l m us cs ts)) x
-      → settled n k (joined l m us cs t) o ≡ settle (joined l m us cs ts) (act new (joined l m us cs ts) p q) out
-  on-tokens x e f = within-settled (put-tokens (joined l m us cs ts)) ts x out e ∙ of-domain _ f
+  pub on-tokens : {n k : ℕ} {o : List ℕ} {t : Tokens} (x : Effect Tokens) → settled n k t o ≡ settle ts x out → act new (assembled l m us cs ts) p q ≡ within (put-tokens (assembled l m us cs ts)) x
+      → settled n k (assembled l m us cs t) o ≡ settle (assembled l m us cs ts) (act new (assembled l m us cs ts) p q) out
+  on-tokens x e f = within-settled (put-tokens (assembled l m us cs ts)) ts x out e ∙ of-domain _ f
 
-  pub on-channels : {n k : ℕ} {o : List ℕ} {c : Channels} (x : Effect Channels) → settled n k c o ≡ settle cs x out → act new (joined l m us cs ts) p q ≡ within (put-channels (joined l m us cs ts)) x
-      → settled n k (joined l m us c ts) o ≡ settle (joined l m us cs ts) (act new (joined l m us cs ts) p q) out
-  on-channels x e f = within-settled (put-channels (joined l m us cs ts)) cs x out e ∙ of-domain _ f
+  pub on-channels : {n k : ℕ} {o : List ℕ} {c : Channels} (x : Effect Channels) → settled n k c o ≡ settle cs x out → act new (assembled l m us cs ts) p q ≡ within (put-channels (assembled l m us cs ts)) x
+      → settled n k (assembled l m us c ts) o ≡ settle (assembled l m us cs ts) (act new (assembled l m us cs ts) p q) out
+  on-channels x e f = within-settled (put-channels (assembled l m us cs ts)) cs x out e ∙ of-domain _ f
 
   pub on-both : {n k : ℕ} {o : List ℕ} {u : Users} {c : Channels} (x : Effect (Users × Channels)) → settled {A = Users × Channels} n k (u, c) o ≡ settle (us, cs) x out
-      → act new (joined l m us cs ts) p q ≡ within (put-both (joined l m us cs ts)) x
-      → settled n k (joined l m u c ts) o ≡ settle (joined l m us cs ts) (act new (joined l m us cs ts) p q) out
-  on-both x e f = within-settled {A = Users × Channels} (put-both (joined l m us cs ts)) (us, cs) x out e ∙ of-domain _ f
+      → act new (assembled l m us cs ts) p q ≡ within (put-both (assembled l m us cs ts)) x
+      → settled n k (assembled l m u c ts) o ≡ settle (assembled l m us cs ts) (act new (assembled l m us cs ts) p q) out
+  on-both x e f = within-settled {A = Users × Channels} (put-both (assembled l m us cs ts)) (us, cs) x out e ∙ of-domain _ f

@@ -6,7 +6,7 @@ use mathlib.Core.List.{List, [], _∷_, _++_, map}
 use Prim.Native.Nat.{ℕ}
 use lib.Dec.{eqb}
 use lib.ListN.{take}
-use Rattle.cols_spec.specs.Sets.{if_then_else_, all, null, each, keep, below, has, with, meet, listed, links, seats}
+use Rattle.cols_spec.specs.Sets.{if_then_else_, all, null, each, keep, below, has, with, meet, listed, connections, seats}
 use Rattle.cols_spec.specs.Places.{found, inOrder}
 use Rattle.codec_table.specs.Named.{Message, RJum, DUin, CDin, TVcf, no-such-user}
 use Rattle.out_records.specs.Records.{Sent, to, tell}
@@ -51,7 +51,7 @@ module _ (test : Sent → Bool) where
   -- one message to several connections, and each connection's own ids
   pub tell-all : (m : ℕ) (s : Message) → ((p : ℕ) → test (to p s) ≡ true) → all test (tell m s) ≡ true
   unfolding tell all
-  tell-all m s law = go (listed links m)
+  tell-all m s law = go (listed connections m)
     where
       go : (xs : List ℕ) → all test (map (λ p. to p s) xs) ≡ true
       go [] = refl
@@ -59,7 +59,7 @@ module _ (test : Sent → Bool) where
 
   pub own-all : (us : Users) (ids : List ℕ) (say : List ℕ → Message) → ((p : ℕ) (xs : List ℕ) → test (to p (say xs)) ≡ true) → all test (own us ids say) ≡ true
   unfolding own
-  own-all us ids say law = all-each test _ (λ p. go p (keep (λ u. found (attached us p u)) ids) (null (keep (λ u. found (attached us p u)) ids))) (below links)
+  own-all us ids say law = all-each test _ (λ p. go p (keep (λ u. found (attached us p u)) ids) (null (keep (λ u. found (attached us p u)) ids))) (below connections)
     where
       go : (p : ℕ) (xs : List ℕ) (b : Bool) → all test (if b then [] else to p (say xs) ∷ []) ≡ true
       go p xs true = none-all test
@@ -79,7 +79,7 @@ module _ (test : Sent → Bool) where
     unfolding ended
     ended-all us gone live c Static = none-all test
     ended-all us gone live c User = none-all test
-    ended-all us gone live c (Private g adm) = all-either test (has gone g) _ _ (tell-all (meet links (hosts us (with seats adm g)) live) (CDin c) (λ p. on-end p c)) (none-all test)
+    ended-all us gone live c (Private g adm) = all-either test (has gone g) _ _ (tell-all (meet connections (hosts us (with seats adm g)) live) (CDin c) (λ p. on-end p c)) (none-all test)
     ended-all us gone live c Assigned = none-all test
 
     -- a token that goes back to its giver

@@ -8,13 +8,13 @@ use native.Mathlib.Omega.{arith}
 use borrow.Author.Tests.{lt-ltb, le-ltb}
 use lib.Dec.{eqb, ltb}
 use lib.ListN.{length, drop}
-use Rattle.cols_spec.specs.Sets.{if_then_else_, has, with, links}
+use Rattle.cols_spec.specs.Sets.{if_then_else_, has, with, connections}
 use Rattle.out_records.specs.Records.{Sent, records}
 use Rattle.domain.specs.Tables.{Domain, put-links, grant}
-use Rattle.domain.specs.Effects.{Effect, ignored, done, Settled, settled, sends, settle}
+use Rattle.domain.specs.Effects.{Effect, ignored, done, Settled, settled, delivers, settle}
 use Rattle.domain.specs.Leaving.{close}
 use Rattle.domain.specs.Events.{Reading, opens, loses, hears, stays, sends as sends-of, ends, complaint, answers, step-with, step, Outcome}
-use Rattle.domain.specs.Outcomes.{turned, after}
+use Rattle.domain.specs.Outcomes.{step-settled, after}
 
 pub not-not : (b : Bool) → b ≡ not (not b)
 not-not true = refl
@@ -28,20 +28,20 @@ pub not-false : (b : Bool) → not b ≡ false → b ≡ true
 not-false true e = refl
 not-false false e = sym e
 
-pub stays-turned : (d : Domain) (n : ℕ) (out : List ℕ) → settled n 0 d out ≡ turned (stays d n) out
-unfolding turned records
+pub stays-turned : (d : Domain) (n : ℕ) (out : List ℕ) → settled n 0 d out ≡ step-settled (stays d n) out
+unfolding step-settled records
 stays-turned d n out = refl
 
-pub sends-turned : (d e : Domain) (n : ℕ) (rs : List Sent) (out : List ℕ) → sends n d e rs out ≡ turned (sends-of d (length out) n e rs) out
-unfolding sends sends-of turned records
+pub sends-turned : (d e : Domain) (n : ℕ) (rs : List Sent) (out : List ℕ) → delivers n d e rs out ≡ step-settled (sends-of d (length out) n e rs) out
+unfolding delivers sends-of step-settled records
 sends-turned d e n rs out = go (ltb (length out) (length (records rs)))
   where
     go : (b : Bool) → (if b then settled 9 0 d out else settled n (length (records rs)) e (records rs ++ drop (length (records rs)) out))
-        ≡ turned (if b then stays d 9 else record { reply = n; domain = e; sent = rs }) out
+        ≡ step-settled (if b then stays d 9 else record { reply = n; domain = e; sent = rs }) out
     go true = refl
     go false = refl
 
-pub ends-turned : (d : Domain) (x : Effect Domain) (out : List ℕ) → settle d x out ≡ turned (ends d (length out) x) out
+pub ends-turned : (d : Domain) (x : Effect Domain) (out : List ℕ) → settle d x out ≡ step-settled (ends d (length out) x) out
 unfolding settle ends
 ends-turned d ignored out = stays-turned d 1 out
 ends-turned d (done e rs) out = sends-turned d e 0 rs out
@@ -70,12 +70,12 @@ module _ (d : Domain) (p : ℕ) (out : List ℕ) (r : Bool) (is : r ≡ not (ltb
   pub open-served : r ≡ true → (m : Reading) (x : Effect Domain) → answers (grant (d .channels)) d p m (length out) ≡ ends d (length out) x
       → settle d x out ≡ after d (hears p m) out
   unfolding after step step-with
-  open-served h m x e = rw (in-use h) (ends-turned d x out ∙ ap (λ (o : Outcome). turned o out) (sym e))
+  open-served h m x e = rw (in-use h) (ends-turned d x out ∙ ap (λ (o : Outcome). step-settled o out) (sym e))
 
   pub open-refused : r ≡ true → (m : Reading) (n : ℕ) (rs : List Sent) → answers (grant (d .channels)) d p m (length out) ≡ sends-of d (length out) n d rs
-      → sends n d d rs out ≡ after d (hears p m) out
+      → delivers n d d rs out ≡ after d (hears p m) out
   unfolding after step step-with
-  open-refused h m n rs e = rw (in-use h) (sends-turned d d n rs out ∙ ap (λ (o : Outcome). turned o out) (sym e))
+  open-refused h m n rs e = rw (in-use h) (sends-turned d d n rs out ∙ ap (λ (o : Outcome). step-settled o out) (sym e))
 
 -- p opens
 module _ (d : Domain) (m p : ℕ) (out : List ℕ) where
@@ -87,6 +87,6 @@ module _ (d : Domain) (m p : ℕ) (out : List ℕ) where
   unfolding after step step-with
   opens-again h e = rw (le-ltb 15 p h, e) (stays-turned (put-links d m) 3 out)
 
-  pub opens-done : p ≤ 15 → has m p ≡ false → settled 0 0 (put-links d (with links m p)) out ≡ after (put-links d m) (opens p) out
-  unfolding after step step-with turned records
+  pub opens-done : p ≤ 15 → has m p ≡ false → settled 0 0 (put-links d (with connections m p)) out ≡ after (put-links d m) (opens p) out
+  unfolding after step step-with step-settled records
   opens-done h e = rw (le-ltb 15 p h, e) refl

@@ -5,7 +5,7 @@ use mathlib.Core.Bool.{Bool, true, false, _&&_, _||_}
 use mathlib.Core.List.{List, [], _∷_}
 use mathlib.Core.Option.{Option, none, some}
 use lib.Dec.{eqb, ltb}
-use Rattle.cols_spec.specs.Sets.{if_then_else_, keep, any, null, each, below, member, once, has, those, with, without, minus, meet, union, only, links, seats}
+use Rattle.cols_spec.specs.Sets.{if_then_else_, keep, any, null, each, below, member, once, has, those, with, without, minus, meet, union, only, connections, seats}
 use Rattle.cols_spec.specs.Places.{Place, At, Nowhere, find, found, load}
 use Rattle.codec_table.specs.Named.{Message, AUcf, CJcf, CCcf, CDin, CAin, CEin, successful, no-such-channel, not-admitted, other-user-id, too-many-channels, too-many-users}
 use Rattle.out_records.specs.Records.{Sent, to, tell}
@@ -13,7 +13,7 @@ use Rattle.domain.specs.declared.channel.Kind.{Kind}
 use Rattle.domain.specs.declared.channel.Kind.the-variants.{Static, User, Private, Assigned}
 use Rattle.domain.specs.declared.channel.Channel.{Channel}
 use Rattle.domain.specs.Cells.{no-channel, kind, channel-of, with-marks, with-guests}
-use Rattle.domain.specs.Tables.{Users, Channels, attached, add-user, hosts, channel, add-channel, set-channel, end-channel, sweep-channels, marked}
+use Rattle.domain.specs.Tables.{Users, Channels, attached, add-user, hosts, channel, add-channel, set-channel, end-channel, sweep-channels, narrowed}
 use Rattle.domain.specs.Effects.{Effect, ignored, done, from}
 
 -- AUrq. At the user limit too-many-users, else at the channel limit too-many-channels, else a user with its user id channel. AUcf to p
@@ -33,7 +33,7 @@ may Assigned c u i = successful
 -- CJrq for a channel in use. Success marks p as joined; again is success
 unfoldable pub join-at : (cs : Channels) (p u c j n : ℕ) → Effect Channels
 join-at cs p u c j zero =
-    done (set-channel cs j (with-marks (channel cs j) (with links (channel cs j .marks) p))) (to p (CJcf successful u c (some c)) ∷ [])
+    done (set-channel cs j (with-marks (channel cs j) (with connections (channel cs j .marks) p))) (to p (CJcf successful u c (some c)) ∷ [])
 join-at cs p u c j (suc n) = done cs (to p (CJcf (suc n) u c none) ∷ [])
 
 -- CJrq for a channel not in use. From 1001, no-such-channel. Else, at the limit, too-many-channels. Channel 0: a new assigned channel; 1 to
@@ -42,8 +42,8 @@ unfoldable pub join-new : (new : ℕ) (full : Bool) (cs : Channels) (p u c : ℕ
 join-new new full cs p u c =
     if ltb 1000 c then done cs (to p (CJcf no-such-channel u c none) ∷ [])
     else if full then done cs (to p (CJcf too-many-channels u c none) ∷ [])
-    else if eqb c 0 then done (add-channel cs new (channel-of Assigned (only links p))) (to p (CJcf successful u c (some new)) ∷ [])
-    else done (add-channel cs c (channel-of Static (only links p))) (to p (CJcf successful u c (some c)) ∷ [])
+    else if eqb c 0 then done (add-channel cs new (channel-of Assigned (only connections p))) (to p (CJcf successful u c (some new)) ∷ [])
+    else done (add-channel cs c (channel-of Static (only connections p))) (to p (CJcf successful u c (some c)) ∷ [])
 
 unfoldable pub join : (new : ℕ) (full : Bool) (us : Users) (cs : Channels) (p u c : ℕ) → Effect Channels
 join new full us cs p u c = from us p u λ i. elim (find (cs .ids) c) [
@@ -56,7 +56,7 @@ unfoldable pub joined : (cs : Channels) (p c : ℕ) → Bool
 joined cs p c = has (load (cs .cells) (find (cs .ids) c) no-channel .marks) p
 
 unfoldable pub left : (p : ℕ) (ids : List ℕ) (c : ℕ) (ch : Channel) → Option Channel
-left p ids c ch = if member c ids then marked ch (without links (ch .marks) p) else some ch
+left p ids c ch = if member c ids then narrowed ch (without connections (ch .marks) p) else some ch
 
 unfoldable pub leave-channels : (cs : Channels) (p : ℕ) (ids : List ℕ) → Effect Channels
 leave-channels cs p ids = if any (joined cs p) ids then done (sweep-channels (left p ids) cs) [] else ignored
@@ -96,7 +96,7 @@ unfoldable pub own : (us : Users) (ids : List ℕ) (say : (List ℕ → Message)
 own us ids say =
     each (λ q.
     let mine = keep (λ u. found (attached us q u)) ids in
-    if null mine then [] else to q (say mine) ∷ []) (below links)
+    if null mine then [] else to q (say mine) ∷ []) (below connections)
 
 -- of listed ids those attached, and those admitted, each once
 unfoldable pub attached-of : Users → List ℕ → List ℕ
@@ -113,12 +113,12 @@ admit us cs p u c ids = manages us cs p u c λ j m adm.
     else done (set-channel cs j (with-guests (channel cs j) (union seats adm (places us let-in)) (channel cs j .marks))) (own us let-in (CAin u c))
 
 -- a connection is joined to a private channel only while its manager m or an admitted user is attached there; otherwise the mark goes
-unfoldable pub private : (us : Users) (ch : Channel) (m adm joined : ℕ) → Channel
-private us ch m adm joined = with-guests ch adm (meet links joined (hosts us (with seats adm m)))
+unfoldable pub private-marks : (us : Users) (ch : Channel) (m adm joined : ℕ) → Channel
+private-marks us ch m adm joined = with-guests ch adm (meet connections joined (hosts us (with seats adm m)))
 
 -- CErq expels the listed ids that are admitted; none left, ignored. CEin
 unfoldable pub expel : (us : Users) (cs : Channels) (p u c : ℕ) (ids : List ℕ) → Effect Channels
 expel us cs p u c ids = manages us cs p u c λ j m adm.
     let out = admitted-of us adm ids in
     if null out then ignored
-    else done (set-channel cs j (private us (channel cs j) m (minus seats adm (places us out)) (channel cs j .marks))) (own us out (CEin c))
+    else done (set-channel cs j (private-marks us (channel cs j) m (minus seats adm (places us out)) (channel cs j .marks))) (own us out (CEin c))

@@ -42,15 +42,15 @@ unfoldable pub past : Run → History
 past (run d h) = h
 
 -- one event more
-unfoldable pub turned : Run → Turn → Run
-turned r t =
+unfoldable pub next-run : Run → Turn → Run
+next-run r t =
     let o = step (now r) (t .0) (t .1) in
     run (o .domain) (record { event = t .0; reply = o .reply; sent = o .sent } ▹ past r)
 
 -- one event after another
 unfoldable pub goes : Run → List Turn → Run
 goes r [] = r
-goes r (t ∷ ts) = goes (turned r t) ts
+goes r (t ∷ ts) = goes (next-run r t) ts
 
 -- any events, with any rooms, from a fresh domain
 unfoldable pub from-fresh : Limits → List Turn → Run

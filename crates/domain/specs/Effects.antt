@@ -39,13 +39,17 @@ settled n k a out = record { reply = n; sent = k; tables = a; room = out }
 abbrev pub answered : {A : Type 0} (r : Answer) (a : A) (out : List ℕ) → Settled A
 answered r a out = settled (replyNumber (r .reply)) (r .sent) a out
 
+-- octets that are to be sent exceed a room: reply 9
+abbrev pub exceeds : (octets : List ℕ) (room : ℕ) → Bool
+exceeds octets room = ltb room (length octets)
+
 -- replies 1 to 9 leave the tables unchanged. 9 replaces the reply exactly when the records to send exceed the room, and leaves it untouched;
 -- otherwise octets behind the records stay
-unfoldable pub sends : {A : Type 0} (n : ℕ) (before after : A) (rs : List Sent) (out : List ℕ) → Settled A
-sends n before after rs out =
-    if ltb (length out) (length (records rs)) then settled 9 0 before out
+unfoldable pub delivers : {A : Type 0} (n : ℕ) (before after : A) (rs : List Sent) (out : List ℕ) → Settled A
+delivers n before after rs out =
+    if exceeds (records rs) (length out) then settled 9 0 before out
     else settled n (length (records rs)) after (records rs ++ drop (length (records rs)) out)
 
 unfoldable pub settle : {A : Type 0} (before : A) (x : Effect A) (out : List ℕ) → Settled A
 settle before ignored out = settled 1 0 before out
-settle before (done after rs) out = sends 0 before after rs out
+settle before (done after rs) out = delivers 0 before after rs out

@@ -3,13 +3,13 @@ use Prim.Native.Nat.{ℕ}
 use mathlib.Core.Bool.{Bool, true, false, not, _||_}
 use mathlib.Core.List.{List, [], _∷_}
 use lib.Dec.{eqb, ltb}
-use lib.ListN.{length, take}
-use Rattle.cols_spec.specs.Sets.{if_then_else_, has, with, links}
+use lib.ListN.{take}
+use Rattle.cols_spec.specs.Sets.{if_then_else_, has, with, connections}
 use Rattle.codec_table.specs.Named.{Message, EDrq, DPum, RJum, AUrq, AUcf, DUrq, DUin, CJrq, CJcf, CLrq, CCrq, CCcf, CDrq, CDin, CArq, CAin, CErq, CEin}
 use Rattle.codec_table.specs.Named.{TGrq, TGcf, TIrq, TIcf, TVrq, TVin, TVrs, TVcf, TPrq, TPin, TRrq, TRcf, TTrq, TTcf, forbidden-PDU-upward, invalid-PER-encoding}
 use Rattle.out_records.specs.Records.{Sent, to, records}
 use Rattle.domain.specs.Tables.{Users, Channels, Domain, put-links, put-channels, put-tokens, put-both, at-limit, grant}
-use Rattle.domain.specs.Effects.{Effect, ignored, done, within}
+use Rattle.domain.specs.Effects.{Effect, ignored, done, within, exceeds}
 use Rattle.domain.specs.Channels.{attach, join, leave-channels, convene, disband, admit, expel}
 use Rattle.domain.specs.Leaving.{detach, close}
 use Rattle.domain.specs.Passing.{take-token, share-token, drop-token, offer, answer, please, test}
@@ -44,7 +44,7 @@ act new d p (TVrs n r k) = within (put-tokens d) (answer (d .users) (d .tokens) 
 act new d p (TPrq u k) = within (put-tokens d) (please (d .users) (d .tokens) p u k)
 act new d p (TRrq u k) = within (put-tokens d) (drop-token (d .users) (d .tokens) p u k)
 act new d p (TTrq u k) = within (put-tokens d) (test (d .users) (d .tokens) p u k)
--- these may not go up, and never come here: reply 6
+-- these never come here: what may not go up is refused before, by reply 6
 act new d p (AUcf n u) = ignored
 act new d p (DUin n ids) = ignored
 act new d p (CJcf n u c e) = ignored
@@ -80,7 +80,7 @@ stays d n = record { reply = n; domain = d; sent = [] }
 
 -- 9 takes the place of the reply where the records exceed the room
 unfoldable pub sends : (d : Domain) (room n : ℕ) (e : Domain) (rs : List Sent) → Outcome
-sends d room n e rs = if ltb room (length (records rs)) then stays d 9 else record { reply = n; domain = e; sent = rs }
+sends d room n e rs = if exceeds (records rs) room then stays d 9 else record { reply = n; domain = e; sent = rs }
 
 unfoldable pub ends : (d : Domain) (room : ℕ) (x : Effect Domain) → Outcome
 ends d room ignored = stays d 1
@@ -102,7 +102,7 @@ unfoldable pub step-with : (new : ℕ) (d : Domain) (e : Event) (room : ℕ) →
 step-with new d (opens p) room =
     if ltb 15 p then stays d 2
     else if has (d .links) p then stays d 3
-    else record { reply = 0; domain = put-links d (with links (d .links) p); sent = [] }
+    else record { reply = 0; domain = put-links d (with connections (d .links) p); sent = [] }
 step-with new d (loses p) room =
     if ltb 15 p || not (has (d .links) p) then stays d 2
     else ends d room (close d p)

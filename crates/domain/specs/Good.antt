@@ -4,7 +4,7 @@ use mathlib.Core.Bool.{Bool, true, false, not, _&&_, _||_, So}
 use mathlib.Core.List.{List, [], _∷_}
 use lib.Dec.{eqb, leb, ltb}
 use lib.ListN.{length}
-use Rattle.cols_spec.specs.Sets.{if_then_else_, all, below, has, with, only, meet, links, seats}
+use Rattle.cols_spec.specs.Sets.{if_then_else_, all, below, has, with, only, meet, connections, seats}
 use Rattle.cols_spec.specs.Places.{At, Nowhere, find, used, distinct, every, load}
 use Rattle.domain.specs.declared.Limits.{Limits}
 use Rattle.domain.specs.declared.channel.Kind.{Kind}
@@ -18,7 +18,7 @@ use Rattle.domain.specs.Tables.{Users, Domain, name, link, hosts, betwee
 
 -- the mask m has nothing but what n has
 unfoldable pub inside : ℕ → ℕ → Bool
-inside m n = eqb (meet links m n) m
+inside m n = eqb (meet connections m n) m
 
 -- a user is at this place; at each place of this mask
 unfoldable pub seated : Users → ℕ → Bool
@@ -30,7 +30,7 @@ all-seated us m = ltb m (2 ^ 64) && all (λ i. not (has m i) || seated us i) (be
 -- ids of their kind; named users attached; marks only where they may be; nothing static or assigned with nobody on it
 unfoldable pub channel-sound : (us : Users) (c : ℕ) (k : Kind) (m : ℕ) → Bool
 channel-sound us c Static m = between 1 1000 c && ltb 0 m
-channel-sound us c User m = between 1001 65535 c && elim (find (us .ids) c) [ At i ↦ inside m (only links (link us i)) | Nowhere ↦ false ]
+channel-sound us c User m = between 1001 65535 c && elim (find (us .ids) c) [ At i ↦ inside m (only connections (link us i)) | Nowhere ↦ false ]
 channel-sound us c (Private g adm) m = between 1001 65535 c && seated us g && all-seated us adm && inside m (hosts us (with seats adm g))
 channel-sound us c Assigned m = between 1001 65535 c && ltb 0 m
 
@@ -55,22 +55,39 @@ same-channel a b = eqb (a .role) (b .role) && eqb (a .chair) (b .chair) && eqb (
 unfoldable pub same-token : Token → Token → Bool
 same-token a b = eqb (a .mode) (b .mode) && eqb (a .value) (b .value)
 
+-- place i of the users: free, or an id from 1001, an open connection, and a user id channel of that id
+abbrev pub user-at-sound : Domain → (i u p : ℕ) → Bool
+user-at-sound d = λ i u p.
+    eqb u 0
+    || between 1001 65535 u
+    && has (d .links) p
+    && is-user (kind (load (d .channels .cells) (find (d .channels .ids) u) no-channel))
+
+-- place j of the channels: free, or the numbers of its kind, marks only on open connections, and the rules of its kind
+abbrev pub channel-at-sound : Domain → (j c : ℕ) → Channel → Bool
+channel-at-sound d = λ j c ch.
+    eqb c 0
+    || same-channel ch (channel-of (kind ch) (ch .marks))
+    && inside (ch .marks) (d .links)
+    && channel-sound (d .users) c (kind ch) (ch .marks)
+
+-- place i of the tokens: free, or an id, the numbers of its state, and the rules of its state
+abbrev pub token-at-sound : Domain → (i k : ℕ) → Token → Bool
+token-at-sound d = λ i k t.
+    eqb k 0
+    || leb k 65535
+    && same-token t (token-of (hold t))
+    && token-sound (d .users) (hold t)
+
+-- no id stands twice, and every place is sound
 unfoldable pub users-sound : Domain → Bool
-users-sound d =
-    distinct (d .users .ids)
-    && every (λ i u p.
-    eqb u 0 || between 1001 65535 u && has (d .links) p && is-user (kind (load (d .channels .cells) (find (d .channels .ids) u) no-channel))) 0 (d .users .ids) (d .users .at)
+users-sound d = distinct (d .users .ids) && every (user-at-sound d) 0 (d .users .ids) (d .users .at)
 
 unfoldable pub channels-sound : Domain → Bool
-channels-sound d =
-    distinct (d .channels .ids)
-    && every (λ j c ch.
-    eqb c 0 || same-channel ch (channel-of (kind ch) (ch .marks)) && inside (ch .marks) (d .links) && channel-sound (d .users) c (kind ch) (ch .marks)) 0 (d .channels .ids) (d .channels .cells)
+channels-sound d = distinct (d .channels .ids) && every (channel-at-sound d) 0 (d .channels .ids) (d .channels .cells)
 
 unfoldable pub tokens-sound : Domain → Bool
-tokens-sound d =
-    distinct (d .tokens .ids)
-    && every (λ i k t. eqb k 0 || leb k 65535 && same-token t (token-of (hold t)) && token-sound (d .users) (hold t)) 0 (d .tokens .ids) (d .tokens .cells)
+tokens-sound d = distinct (d .tokens .ids) && every (token-at-sound d) 0 (d .tokens .ids) (d .tokens .cells)
 
 unfoldable pub counts-sound : Domain → Bool
 counts-sound d =

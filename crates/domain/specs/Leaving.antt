@@ -3,7 +3,7 @@ use Prim.Native.Nat.{ℕ}
 use mathlib.Core.Bool.{Bool, true, false, not, _&&_}
 use mathlib.Core.List.{List, [], _∷_, _++_}
 use mathlib.Core.Option.{Option, none, some}
-use Rattle.cols_spec.specs.Sets.{if_then_else_, keep, null, each, once, has, without, with, minus, meet, links, seats}
+use Rattle.cols_spec.specs.Sets.{if_then_else_, keep, null, each, once, has, without, with, minus, meet, connections, seats}
 use Rattle.cols_spec.specs.Places.{Place, At, Nowhere, find, found, inOrder, load}
 use Rattle.codec_table.specs.Named.{DUin, CDin, TVcf, no-such-user, domain-disconnected}
 use Rattle.out_records.specs.Records.{Sent, to, tell}
@@ -13,20 +13,20 @@ use Rattle.domain.specs.declared.channel.Channel.{Channel}
 use Rattle.domain.specs.declared.token.Holding.{Holding}
 use Rattle.domain.specs.declared.token.Holding.the-variants.{Free, Grabbed, Inhibited, Giving, Given}
 use Rattle.domain.specs.Cells.{no-channel, kind}
-use Rattle.domain.specs.Tables.{Users, Domain, name, link, attached, remove-users, hosts, sweep-channels, marked, state, sweep-tokens}
+use Rattle.domain.specs.Tables.{Users, Domain, name, link, attached, remove-users, hosts, sweep-channels, narrowed, state, sweep-tokens}
 use Rattle.domain.specs.Tokens.{status, lose}
 use Rattle.domain.specs.Effects.{Effect, ignored, done}
-use Rattle.domain.specs.Channels.{places, private}
+use Rattle.domain.specs.Channels.{places, private-marks}
 
 -- A leaver's user id channel ends; private channels it managed end; it is admitted nowhere. Marks of a closed connection go
 unfoldable pub fate-of : (us : Users) (gone live c : ℕ) (ch : Channel) (k : Kind) → Option Channel
-fate-of us gone live c ch Static = marked ch (meet links (ch .marks) live)
+fate-of us gone live c ch Static = narrowed ch (meet connections (ch .marks) live)
 fate-of us gone live c ch User = elim (find (us .ids) c) [
-  | At i ↦ if has gone i then none else marked ch (meet links (ch .marks) live)
-  | Nowhere ↦ marked ch (meet links (ch .marks) live)
+  | At i ↦ if has gone i then none else narrowed ch (meet connections (ch .marks) live)
+  | Nowhere ↦ narrowed ch (meet connections (ch .marks) live)
 ]
-fate-of us gone live c ch (Private g adm) = if has gone g then none else some (private us ch g (minus seats adm gone) (meet links (ch .marks) live))
-fate-of us gone live c ch Assigned = marked ch (meet links (ch .marks) live)
+fate-of us gone live c ch (Private g adm) = if has gone g then none else some (private-marks us ch g (minus seats adm gone) (meet connections (ch .marks) live))
+fate-of us gone live c ch Assigned = narrowed ch (meet connections (ch .marks) live)
 
 unfoldable pub fate : (us : Users) (gone live c : ℕ) (ch : Channel) → Option Channel
 fate us gone live c ch = fate-of us gone live c ch (kind ch)
@@ -35,7 +35,7 @@ fate us gone live c ch = fate-of us gone live c ch (kind ch)
 unfoldable pub ended : (us : Users) (gone live c : ℕ) (k : Kind) → List Sent
 ended us gone live c Static = []
 ended us gone live c User = []
-ended us gone live c (Private g adm) = if has gone g then tell (meet links (hosts us (with seats adm g)) live) (CDin c) else []
+ended us gone live c (Private g adm) = if has gone g then tell (meet connections (hosts us (with seats adm g)) live) (CDin c) else []
 ended us gone live c Assigned = []
 
 -- TVcf no-such-user to a giver who stays where the recipient leaves
@@ -81,4 +81,4 @@ detach d p reason ids =
 
 -- DPum, RJum, loss. p closes; its users leave together, reason 0 (domain disconnected), ids ascending
 unfoldable pub close : Domain → ℕ → Effect Domain
-close d p = leave d (without links (d .links) p) domain-disconnected (those-on (d .users) p (inOrder (d .users .ids)))
+close d p = leave d (without connections (d .links) p) domain-disconnected (those-on (d .users) p (inOrder (d .users .ids)))

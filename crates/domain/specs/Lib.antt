@@ -2,6 +2,7 @@ pub mod Numbers
 pub mod Cells
 pub mod Tokens
 pub mod Tables
+pub mod Lent
 pub mod Effects
 pub mod Channels
 pub mod Leaving
@@ -11,5 +12,5 @@ pub mod Good
 pub mod History
 pub mod Claims
 pub mod Hearers
-pub mod Joined
+pub mod Assembled
 pub mod Outcomes

@@ -2,7 +2,7 @@
 use Prim.Native.Nat.{ℕ}
 use mathlib.Core.List.{List, _++_}
 use lib.ListN.{length, drop}
-use Rattle.cols_spec.specs.Sets.{if_then_else_, listed, links}
+use Rattle.cols_spec.specs.Sets.{if_then_else_, listed, connections}
 use Rattle.cols_spec.specs.Places.{find, load}
 use Rattle.out_records.specs.Records.{records}
 use Rattle.domain.specs.declared.Limits.{Limits}
@@ -12,11 +12,11 @@ use Rattle.domain.specs.Effects.{Settled, settled}
 use Rattle.domain.specs.Events.{Event, step, Outcome as Stepped}
 
 -- an event: the reply, the octets sent, the tables, and the room: the records from its start, and behind them what stood there
-unfoldable pub turned : (o : Stepped) (out : List ℕ) → Settled Domain
-turned o out = settled (o .reply) (length (records (o .sent))) (o .domain) (records (o .sent) ++ drop (length (records (o .sent))) out)
+unfoldable pub step-settled : (o : Stepped) (out : List ℕ) → Settled Domain
+step-settled o out = settled (o .reply) (length (records (o .sent))) (o .domain) (records (o .sent) ++ drop (length (records (o .sent))) out)
 
 unfoldable pub after : (d : Domain) (e : Event) (out : List ℕ) → Settled Domain
-after d e out = turned (step d e (length out)) out
+after d e out = step-settled (step d e (length out)) out
 
 -- 10: a start limit out of range, no domain; else a fresh domain with these limits
 abbrev pub limited : (channels users tokens : ℕ) → Limits
@@ -27,4 +27,4 @@ begun channels users tokens before = if in-range (limited channels users tokens)
 
 -- A channel's audience, the number of connections joined (0 if not in use)
 unfoldable pub audience : (cs : Channels) (c : ℕ) → ℕ
-audience cs c = length (listed links (load (cs .cells) (find (cs .ids) c) no-channel .marks))
+audience cs c = length (listed connections (load (cs .cells) (find (cs .ids) c) no-channel .marks))

@@ -10,7 +10,7 @@ use Rattle.out_records.specs.Records.{Sent, to, tell}
 use Rattle.domain.specs.declared.token.Holding.{Holding}
 use Rattle.domain.specs.declared.token.Holding.the-variants.{Free, Grabbed, Inhibited, Giving, Given}
 use Rattle.domain.specs.Tables.{Users, Tokens, name, link, hosts, state, set-token}
-use Rattle.domain.specs.Tokens.{Turned, fails, turns, status, grab, inhibit, release, grabbed-by, offered-to, answered, party}
+use Rattle.domain.specs.Tokens.{Turned, fails, turns, status, grab, inhibit, release, grabbed-by, offered-to, responded, party}
 use Rattle.domain.specs.Effects.{Effect, ignored, done, from}
 
 -- a request by u, who is at place i: the confirm to p has the result, and the status for u after the change
@@ -49,7 +49,7 @@ informed us n k (Given r) h = []
 -- TVrs. r must be attached on p and the token be giving or given to r, else ignored
 unfoldable pub answer : (us : Users) (ts : Tokens) (p n r k : ℕ) → Effect Tokens
 answer us ts p n r k = from us p r λ i.
-    let h = answered (eqb n successful) (state ts k) i in
+    let h = responded (eqb n successful) (state ts k) i in
     if offered-to (state ts k) i then done (set-token ts k h) (informed us n k (state ts k) h)
     else ignored
 

@@ -14,7 +14,7 @@ use Rattle.domain.specs.declared.token.Holding.{Holding}
 use Rattle.domain.specs.declared.token.Holding.the-variants.{Free, Grabbed, Inhibited, Giving, Given}
 use Rattle.domain.specs.declared.token.Token.{Token}
 use Rattle.domain.specs.Cells.{no-channel, no-token, kind, with-marks, hold, token-of}
-use Rattle.cols_spec.specs.Sets.{if_then_else_, any, below, has, those, with, without, minus, meet, links, seats}
+use Rattle.cols_spec.specs.Sets.{if_then_else_, any, below, has, those, with, without, minus, meet, connections, seats}
 use Rattle.cols_spec.specs.Places.{Place, At, Nowhere, find, found, spare, seat, used, store, load, becomes, sweep, unused}
 
 pub record Users : Type 0 where
@@ -44,25 +44,25 @@ seen Nowhere z f = z
 -- ---- the columns: a table is lent as one array of numbers for each part of a place
 
 abbrev pub users-of : List ℕ → List ℕ → Users
-users-of names homes = record { ids = names; at = homes }
+users-of ids links = record { ids = ids; at = links }
 
-unfoldable pub channel-cells : (roles chairs guests marks : List ℕ) → List Channel
+unfoldable pub channel-cells : (kinds managers admitted joined : List ℕ) → List Channel
 channel-cells [] cs gs ms = []
 channel-cells (r ∷ rs) [] gs ms = []
 channel-cells (r ∷ rs) (c ∷ cs) [] ms = []
 channel-cells (r ∷ rs) (c ∷ cs) (g ∷ gs) [] = []
 channel-cells (r ∷ rs) (c ∷ cs) (g ∷ gs) (m ∷ ms) = record { role = r; chair = c; guests = g; marks = m } ∷ channel-cells rs cs gs ms
 
-abbrev pub channels-of : (ids roles chairs guests marks : List ℕ) → Channels
-channels-of ids roles chairs guests marks = record { ids = ids; cells = channel-cells roles chairs guests marks }
+abbrev pub channels-of : (ids kinds managers admitted joined : List ℕ) → Channels
+channels-of ids kinds managers admitted joined = record { ids = ids; cells = channel-cells kinds managers admitted joined }
 
-unfoldable pub token-cells : (modes values : List ℕ) → List Token
+unfoldable pub token-cells : (states values : List ℕ) → List Token
 token-cells [] vs = []
 token-cells (m ∷ ms) [] = []
 token-cells (m ∷ ms) (v ∷ vs) = record { mode = m; value = v } ∷ token-cells ms vs
 
-abbrev pub tokens-of : (ids modes values : List ℕ) → Tokens
-tokens-of ids modes values = record { ids = ids; cells = token-cells modes values }
+abbrev pub tokens-of : (ids states values : List ℕ) → Tokens
+tokens-of ids states values = record { ids = ids; cells = token-cells states values }
 
 -- ---- users
 
@@ -71,7 +71,7 @@ unfoldable pub name : Users → ℕ → ℕ
 name us i = getD (us .ids) i 0
 
 unfoldable pub link : Users → ℕ → ℕ
-link us i = getD (us .at) i links
+link us i = getD (us .at) i connections
 
 -- the place of user u, where u is attached on p
 unfoldable pub attached : (us : Users) (p u : ℕ) → Place
@@ -93,7 +93,7 @@ remove-users us gone =
 
 -- the mask of the connections that have a user of a mask of places
 unfoldable pub hosts : Users → ℕ → ℕ
-hosts us who = those links λ q. any (λ i. has who i && eqb (link us i) q) (below seats)
+hosts us who = those connections λ q. any (λ i. has who i && eqb (link us i) q) (below seats)
 
 -- ---- channels
 
@@ -130,8 +130,8 @@ lapses (Private m us) = false
 lapses Assigned = true
 
 -- a channel with fewer marks; a static or assigned one with nobody joined ends
-unfoldable pub marked : Channel → ℕ → Option Channel
-marked ch m = if lapses (kind ch) && eqb m 0 then none else some (with-marks ch m)
+unfoldable pub narrowed : Channel → ℕ → Option Channel
+narrowed ch m = if lapses (kind ch) && eqb m 0 then none else some (with-marks ch m)
 
 -- ---- tokens
 
@@ -206,11 +206,11 @@ abbrev pub Free-id : Domain → ℕ → Type 0
 Free-id d new = So (free-id (d .channels) new)
 
 -- the domain of all its columns
-abbrev pub domain-of : (l : Limits) (m : ℕ) (names homes ids roles chairs guests marks keys modes values : List ℕ) → Domain
-domain-of l m names homes ids roles chairs guests marks keys modes values = record {
+abbrev pub domain-of : (l : Limits) (links : ℕ) (user-ids user-links channel-ids channel-kinds managers admitted joined token-ids token-states token-values : List ℕ) → Domain
+domain-of l m user-ids user-links channel-ids channel-kinds managers admitted joined token-ids token-states token-values = record {
   limits = l;
   links = m;
-  users = users-of names homes;
-  channels = channels-of ids roles chairs guests marks;
-  tokens = tokens-of keys modes values;
+  users = users-of user-ids user-links;
+  channels = channels-of channel-ids channel-kinds managers admitted joined;
+  tokens = tokens-of token-ids token-states token-values;
 }

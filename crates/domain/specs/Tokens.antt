@@ -74,13 +74,13 @@ offered-to (Giving g r) u = eqb r u
 offered-to (Given r) u = eqb r u
 
 -- TVrs. Successful: grabbed by u. Any other result: giving returns to grabbed g, given becomes free
-unfoldable pub answered : (b : Bool) (h : Holding) (u : ℕ) → Holding
-answered true h u = Grabbed u
-answered false Free u = Free
-answered false (Grabbed g) u = Grabbed g
-answered false (Inhibited us) u = Inhibited us
-answered false (Giving g r) u = Grabbed g
-answered false (Given r) u = Free
+unfoldable pub responded : (b : Bool) (h : Holding) (u : ℕ) → Holding
+responded true h u = Grabbed u
+responded false Free u = Free
+responded false (Grabbed g) u = Grabbed g
+responded false (Inhibited us) u = Inhibited us
+responded false (Giving g r) u = Grabbed g
+responded false (Given r) u = Free
 
 -- TPrq. The grabber, the inhibitors, giver and recipient
 unfoldable pub party : Holding → ℕ

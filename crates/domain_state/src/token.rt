@@ -2,7 +2,7 @@
 ghost use mathlib.Core.Path.{_≡_};
 ghost use Rattle.domain.specs.Cells.{hold, token-of};
 ghost use Rattle.domain.specs.Tables.{is-free};
-ghost use Rattle.domain.specs.Tokens.{status as statusOf, grab as grabOf, inhibit as inhibitOf, release as releaseOf, grabbed-by, offered-to, answered as answeredOf, party as partyOf, lose as loseOf, lose-offer, inhibited as inhibitedOf, turnedOf};
+ghost use Rattle.domain.specs.Tokens.{status as statusOf, grab as grabOf, inhibit as inhibitOf, release as releaseOf, grabbed-by, offered-to, responded as answeredOf, party as partyOf, lose as loseOf, lose-offer, inhibited as inhibitedOf, turnedOf};
 ghost use Rattle.domain.specs.Numbers.{statusNumber};
 use domain::numbers::Result;
 use domain::numbers::Status;
@@ -210,7 +210,7 @@ pub fn is_offered(h: Holding, u: u8) -> bool
 }
 
 // TVrs by u.
-pub fn answered(accepts: bool, h: Holding, u: u8) -> Holding
+pub fn responded(accepts: bool, h: Holding, u: u8) -> Holding
     ensures { λ r. ⌜ r ≡ answeredOf accepts h u ⌝ }
 {
     if accepts {

@@ -10,7 +10,7 @@ use lib.Count.{trailingZeros, trailing-of-zero}
 use lib.Dec.{eqb, ltb}
 use lib.ListN.{length, getD}
 use borrow.Author.Tests.{eq-eqb, ne-eqb, eqb-true, eqb-false, ltb-true, ltb-false}
-use Rattle.cols_spec.specs.Sets.{if_then_else_, any, upto, below, has, with, without, links, seats, NextIn}
+use Rattle.cols_spec.specs.Sets.{if_then_else_, any, upto, below, has, with, without, connections, seats, NextIn}
 use Rattle.cols_spec.specs.Places.{Place, At, Nowhere, find, number}
 use Rattle.cols_spec.proofs.Rows.{getD-any}
 use Rattle.cols_spec.proofs.Digits.{has-high, has-with, has-without, is-those, those-lt}
@@ -25,7 +25,7 @@ at-of us p w = elim w [ At i ↦ if eqb (link us i) p then At i else Nowhere | N
 
 pub link-is : (names homes : List ℕ) (i : ℕ) → i < length homes → link (users-of names homes) i ≡ getD homes i 0
 unfolding link
-link-is names homes i h = getD-any homes i links 0 h
+link-is names homes i h = getD-any homes i connections 0 h
 
 module _ (names homes : List ℕ) (p u i : ℕ) where
   pub attached-here : find names u ≡ At i → i < length homes → getD homes i 0 ≡ p → number 64 (attached (users-of names homes) p u) ≡ i
@@ -67,8 +67,8 @@ hosted us who q i = has who i && eqb (link us i) q
 
 -- a loop over the users: m is the mask of the connections of those before i
 pub record Hosting (us : Users) (who m i : ℕ) : Type 0 where
-  pub small : m < 2 ^ links
-  pub has-are : (q : ℕ) → q < links → has m q ≡ any (hosted us who q) (below i)
+  pub small : m < 2 ^ connections
+  pub has-are : (q : ℕ) → q < connections → has m q ≡ any (hosted us who q) (below i)
 
 hosting-start : (us : Users) (who : ℕ) → Hosting us who 0 0
 unfolding any upto
@@ -78,10 +78,10 @@ module _ {us : Users} {who m i : ℕ} (s : Hosting us who m i) where
   hosted-next : (b : Bool) → has who i ≡ b → (q : ℕ) → any (hosted us who q) (below (i + 1)) ≡ (any (hosted us who q) (below i) || (b && eqb (link us i) q))
   hosted-next b e q = rw add-one (any-next (hosted us who q) i ∙ ap (λ (b : Bool). any (hosted us who q) (below i) || (b && eqb (link us i) q)) e)
 
-  hosting-with : has who i ≡ true → Hosting us who (with links m (link us i)) (i + 1)
+  hosting-with : has who i ≡ true → Hosting us who (with connections m (link us i)) (i + 1)
   hosting-with e = record {
-    small = with-lt links m (link us i);
-    has-are = λ q h. has-with links (link us i) q h m ∙ ap (λ (b : Bool). b || eqb (link us i) q) (s .has-are q h) ∙ sym (hosted-next true e q);
+    small = with-lt connections m (link us i);
+    has-are = λ q h. has-with connections (link us i) q h m ∙ ap (λ (b : Bool). b || eqb (link us i) q) (s .has-are q h) ∙ sym (hosted-next true e q);
   }
 
   hosting-without : has who i ≡ false → Hosting us who m (i + 1)
@@ -92,7 +92,7 @@ module _ {us : Users} {who m i : ℕ} (s : Hosting us who m i) where
 
   hosting-end : i ≡ seats → m ≡ hosts us who
   unfolding hosts
-  hosting-end e = is-those links m _ (s .small) (λ q h. s .has-are q h ∙ ap (λ (n : ℕ). any (hosted us who q) (below n)) e)
+  hosting-end e = is-those connections m _ (s .small) (λ q h. s .has-are q h ∙ ap (λ (n : ℕ). any (hosted us who q) (below n)) e)
 
 -- to the next user of the set
 hosting-past : {us : Users} {who m i r : ℕ} → Hosting us who m i → NextIn who i r → i ≤ seats → Hosting us who m r
@@ -158,7 +158,7 @@ module _ {us : Users} {who left m i : ℕ} (s : Left us who left m i) (h : i < s
     here = λ l. (omega (arith, left-higher), behind next l left-higher ∙ next-is .here l .1);
   }
 
-  pub left-next : Left us who (without seats left i) (with links m (link us i)) next
+  pub left-next : Left us who (without seats left i) (with connections m (link us i)) next
   left-next = record {
     fits = rest-fits;
     first = next-is;

@@ -2,7 +2,8 @@
 ghost use mathlib.Core.Path.{_≡_};
 ghost use lib.ListN.{getD, set};
 ghost use Rattle.domain.specs.Cells.{no-channel};
-ghost use Rattle.domain.specs.Tables.{channels-of, channel-cells, add-channel, end-channel};
+ghost use Rattle.domain.specs.Tables.{channel-cells, add-channel, end-channel};
+ghost use Rattle.domain.specs.Lent.{channels-after, channels-before};
 use domain::channel::Channel;
 
 // What stands at place j; a blank where there is no such place.
@@ -65,8 +66,8 @@ pub fn add_channel(
     c: u16,
     ch: Channel,
 )
-    ensures { λ _. ⌜ channels-of (now («channel_ids» .exit)) (now («channel_kinds» .exit)) (now (managers .exit)) (now (admitted .exit)) (now (joined .exit))
-        ≡ add-channel (channels-of (now («channel_ids» .entry)) (now («channel_kinds» .entry)) (now (managers .entry)) (now (admitted .entry)) (now (joined .entry))) c ch ⌝ }
+    ensures { λ _. ⌜ channels-after «channel_ids» «channel_kinds» managers admitted joined
+        ≡ add-channel (channels-before «channel_ids» «channel_kinds» managers admitted joined) c ch ⌝ }
 {
     let j = cols_find::spare(channel_ids);
     if j < 128 {
@@ -84,8 +85,8 @@ pub fn end_channel(
     joined: &mut [u16; 128],
     j: usize,
 )
-    ensures { λ _. ⌜ channels-of (now («channel_ids» .exit)) (now («channel_kinds» .exit)) (now (managers .exit)) (now (admitted .exit)) (now (joined .exit))
-        ≡ end-channel (channels-of (now («channel_ids» .entry)) (now («channel_kinds» .entry)) (now (managers .entry)) (now (admitted .entry)) (now (joined .entry))) j ⌝ }
+    ensures { λ _. ⌜ channels-after «channel_ids» «channel_kinds» managers admitted joined
+        ≡ end-channel (channels-before «channel_ids» «channel_kinds» managers admitted joined) j ⌝ }
 {
     set_channel(
         channel_kinds,

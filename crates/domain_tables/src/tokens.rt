@@ -4,7 +4,8 @@ ghost use Rattle.cols_spec.specs.Sets.{if_then_else_};
 ghost use Rattle.cols_spec.specs.Places.{store as storeAt, load, found, spare};
 ghost use Rattle.domain_tables.specs.Numbered.{place, set-at};
 ghost use Rattle.domain.specs.Cells.{hold, no-token};
-ghost use Rattle.domain.specs.Tables.{tokens-of, token-cells, state as stateIn};
+ghost use Rattle.domain.specs.Tables.{token-cells, state as stateIn};
+ghost use Rattle.domain.specs.Lent.{tokens-after, tokens-before};
 use domain::token::Holding;
 use domain::token::Token;
 
@@ -30,7 +31,7 @@ pub fn state(
     token_values: &[u64; 64],
     k: u16,
 ) -> Holding
-    ensures { λ r. ⌜ r ≡ stateIn (tokens-of (now («token_ids» .entry)) (now («token_states» .entry)) (now («token_values» .entry))) k ⌝ }
+    ensures { λ r. ⌜ r ≡ stateIn (tokens-before «token_ids» «token_states» «token_values») k ⌝ }
 {
     state_at(token_states, token_values, cols_find::find(token_ids, k))
 }
@@ -54,8 +55,8 @@ pub fn set_at(
     k: u16,
     t: Token,
 )
-    ensures { λ _. ⌜ tokens-of (now («token_ids» .exit)) (now («token_states» .exit)) (now («token_values» .exit))
-        ≡ set-at (tokens-of (now («token_ids» .entry)) (now («token_states» .entry)) (now («token_values» .entry))) (place 64 i) k t ⌝ }
+    ensures { λ _. ⌜ tokens-after «token_ids» «token_states» «token_values»
+        ≡ set-at (tokens-before «token_ids» «token_states» «token_values») (place 64 i) k t ⌝ }
 {
     if t.mode == 0 {
         store(token_ids, token_states, token_values, i, 0, t);

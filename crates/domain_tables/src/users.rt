@@ -3,11 +3,12 @@ ghost use mathlib.Core.Path.{_≡_};
 ghost use Prim.Native.Nat.{_≤_};
 ghost use lib.ListN.{getD};
 ghost use Rattle.cols_spec.specs.Places.{number};
-ghost use Rattle.domain.specs.Tables.{users-of, attached as attachedIn, add-user, hosts as hostsOf};
+ghost use Rattle.domain.specs.Tables.{attached as attachedIn, add-user, hosts as hostsOf};
+ghost use Rattle.domain.specs.Lent.{users-after, users-before};
 
 // The place of user u, where u is attached on p; 64 is nowhere.
 pub fn attached(user_ids: &[u16; 64], user_links: &[u8; 64], p: u8, u: u16) -> usize
-    ensures { λ r. ⌜ (r ≡ number 64 (attachedIn (users-of (now («user_ids» .entry)) (now («user_links» .entry))) p u)) × (r ≤ 64) ⌝ }
+    ensures { λ r. ⌜ (r ≡ number 64 (attachedIn (users-before «user_ids» «user_links») p u)) × (r ≤ 64) ⌝ }
 {
     let i = cols_find::find(user_ids, u);
     let at = &user_links[..];
@@ -21,7 +22,7 @@ pub fn attached(user_ids: &[u16; 64], user_links: &[u8; 64], p: u8, u: u16) -> u
 
 // User u, attached on p, at the spare place; where there is none nothing changes.
 pub fn add_user(user_ids: &mut [u16; 64], user_links: &mut [u8; 64], u: u16, p: u8)
-    ensures { λ _. ⌜ users-of (now («user_ids» .exit)) (now («user_links» .exit)) ≡ add-user (users-of (now («user_ids» .entry)) (now («user_links» .entry))) u p ⌝ }
+    ensures { λ _. ⌜ users-after «user_ids» «user_links» ≡ add-user (users-before «user_ids» «user_links») u p ⌝ }
 {
     let i = cols_find::spare(user_ids);
     if i < 64 {
@@ -32,7 +33,7 @@ pub fn add_user(user_ids: &mut [u16; 64], user_links: &mut [u8; 64], u: u16, p: 
 
 // The connections that have a user of a mask of places: the lowest place is taken out of it until none is left.
 pub fn hosts(user_ids: &[u16; 64], user_links: &[u8; 64], who: u64) -> u16
-    ensures { λ r. ⌜ r ≡ hostsOf (users-of (now («user_ids» .entry)) (now («user_links» .entry))) who ⌝ }
+    ensures { λ r. ⌜ r ≡ hostsOf (users-before «user_ids» «user_links») who ⌝ }
 {
     let at = &user_links[..];
     let mut m: u16 = 0;

@@ -4,7 +4,7 @@ ghost use mathlib.Core.List.{[], _∷_};
 ghost use Prim.Native.Nat.{_≤_};
 ghost use lib.ListN.{length, take};
 ghost use Rattle.trace_frames.specs.Frames.{front, sizeOf};
-ghost use Rattle.domain.specs.Tables.{tokens-of};
+ghost use Rattle.domain.specs.Lent.{tokens-before};
 ghost use Rattle.trace_io.specs.Lines.{decimal, Says};
 ghost use Rattle.explain_stop.specs.StopLine.{Tells};
 ghost use Rattle.explain_frame.specs.Sent.{sentTexts};
@@ -210,8 +210,8 @@ pub fn put_frame(
     old_token_values: &mut [u64; 64],
 ) -> usize
     ensures { λ r. ⌜ Tells (messageIn (now (s .entry)) (front (now (s .entry)))) (frameTexts number (now (s .entry)) report (now (room .entry)) (now («user_ids» .entry))
-        (tokens-of (now («old_token_ids» .entry)) (now («old_token_states» .entry)) (now («old_token_values» .entry)))
-        (tokens-of (now («token_ids» .entry)) (now («token_states» .entry)) (now («token_values» .entry)))) (now (out .entry)) filled (now (out .exit)) r
+        (tokens-before «old_token_ids» «old_token_states» «old_token_values»)
+        (tokens-before «token_ids» «token_states» «token_values»)) (now (out .entry)) filled (now (out .exit)) r
         × (now («old_token_ids» .exit) ≡ now («token_ids» .entry)) × (now («old_token_states» .exit) ≡ now («token_states» .entry)) × (now («old_token_values» .exit) ≡ now («token_values» .entry)) ⌝ }
 {
     let a = put_count(out, filled, b"frame ", number);

@@ -5,7 +5,7 @@ ghost use Prim.Native.Nat.{_<_};
 ghost use lib.ListN.{getD, set};
 ghost use Rattle.cols_spec.specs.Sets.{if_then_else_, has};
 ghost use Rattle.cols_spec.specs.Places.{inOrder};
-ghost use Rattle.domain.specs.Tables.{tokens-of};
+ghost use Rattle.domain.specs.Lent.{tokens-before};
 ghost use Rattle.trace_io.specs.Lines.{Says};
 ghost use Rattle.explain_message.specs.Messages.{idTexts};
 ghost use Rattle.explain_tokens.specs.Holders.{over, pickedFrom, holdingTexts, tokenTexts, stateTexts, differ, changedIds, changeTexts, tableTexts};
@@ -116,7 +116,7 @@ fn put_tokens(
     token_values: &[u64; 64],
     list: &[u16],
 ) -> usize
-    ensures { λ r. ⌜ Says (now (out .entry)) filled (over (stateTexts (now («user_ids» .entry)) (tokens-of (now («token_ids» .entry)) (now («token_states» .entry)) (now («token_values» .entry)))) (inOrder (now (list .entry)))) (now (out .exit)) r ⌝ }
+    ensures { λ r. ⌜ Says (now (out .entry)) filled (over (stateTexts (now («user_ids» .entry)) (tokens-before «token_ids» «token_states» «token_values»)) (inOrder (now (list .entry)))) (now (out .exit)) r ⌝ }
 {
     let mut at = filled;
     let mut low: u16 = 0;
@@ -175,8 +175,8 @@ fn changes(
     old_token_states: &mut [u8; 64],
     old_token_values: &mut [u64; 64],
 ) -> [u16; 128]
-    ensures { λ r. ⌜ (r ≡ changedIds (tokens-of (now («old_token_ids» .entry)) (now («old_token_states» .entry)) (now («old_token_values» .entry)))
-        (tokens-of (now («token_ids» .entry)) (now («token_states» .entry)) (now («token_values» .entry))))
+    ensures { λ r. ⌜ (r ≡ changedIds (tokens-before «old_token_ids» «old_token_states» «old_token_values»)
+        (tokens-before «token_ids» «token_states» «token_values»))
         × (now («old_token_ids» .exit) ≡ now («token_ids» .entry)) × (now («old_token_states» .exit) ≡ now («token_states» .entry)) × (now («old_token_values» .exit) ≡ now («token_values» .entry)) ⌝ }
 {
     // How long the columns are: what the loop keeps.
@@ -218,8 +218,8 @@ pub fn put_changes(
     old_token_states: &mut [u8; 64],
     old_token_values: &mut [u64; 64],
 ) -> usize
-    ensures { λ r. ⌜ Says (now (out .entry)) filled (changeTexts (now («user_ids» .entry)) (tokens-of (now («old_token_ids» .entry)) (now («old_token_states» .entry)) (now («old_token_values» .entry)))
-        (tokens-of (now («token_ids» .entry)) (now («token_states» .entry)) (now («token_values» .entry)))) (now (out .exit)) r
+    ensures { λ r. ⌜ Says (now (out .entry)) filled (changeTexts (now («user_ids» .entry)) (tokens-before «old_token_ids» «old_token_states» «old_token_values»)
+        (tokens-before «token_ids» «token_states» «token_values»)) (now (out .exit)) r
         × (now («old_token_ids» .exit) ≡ now («token_ids» .entry)) × (now («old_token_states» .exit) ≡ now («token_states» .entry)) × (now («old_token_values» .exit) ≡ now («token_values» .entry)) ⌝ }
 {
     let list = changes(
@@ -250,7 +250,7 @@ pub fn put_table(
     token_states: &[u8; 64],
     token_values: &[u64; 64],
 ) -> usize
-    ensures { λ r. ⌜ Says (now (out .entry)) filled (tableTexts (now («user_ids» .entry)) (tokens-of (now («token_ids» .entry)) (now («token_states» .entry)) (now («token_values» .entry)))) (now (out .exit)) r ⌝ }
+    ensures { λ r. ⌜ Says (now (out .entry)) filled (tableTexts (now («user_ids» .entry)) (tokens-before «token_ids» «token_states» «token_values»)) (now (out .exit)) r ⌝ }
 {
     let a = say(out, filled, b"tokens in use: ");
     let b = say_number(out, a, cols_find::used(token_ids) as u64);

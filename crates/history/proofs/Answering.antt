@@ -16,7 +16,7 @@ use Rattle.domain.specs.Effects.{Effect, ignored, done}
 use Rattle.domain.specs.Events.{Outcome, hears, reads, stays, sends, ends, complaint, act, answers, step-with, step}
 use Rattle.domain.specs.Good.{Good}
 use Rattle.domain.proofs.invariant.GoodIsSound.{good-sound}
-use Rattle.domain.specs.Outcomes.{turned as answer-turned, after}
+use Rattle.domain.specs.Outcomes.{step-settled as answer-turned, after}
 use Rattle.provider.proofs.Replies.{Comes, complained, Answering, answering, reply-listed, tables-unchanged, complaint-sent, full-is-9, fits-is-sent}
 use Rattle.provider.proofs.Room.{Sized, Arrives, never-9}
 use Rattle.imaging.specs.Claims.{restored}

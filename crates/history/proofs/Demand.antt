@@ -19,7 +19,7 @@ use Rattle.domain_laws.specs.View.{view}
 use Rattle.domain_begun.specs.Begun.{begun-by}
 use Rattle.domain.proofs.holders.Demand.{demand as event-demand}
 use Rattle.domain_begun.proofs.Begun.{tables-claims as event-tables}
-use Rattle.domain.specs.Outcomes.{limited, turned as answer-turned, after}
+use Rattle.domain.specs.Outcomes.{limited, step-settled as answer-turned, after}
 use Rattle.serve_read.specs.Understood.{read-as}
 use Rattle.codec_octets.specs.Octets.{Bytes}
 use Rattle.imaging.specs.Claims.{restored, start-of}

@@ -14,11 +14,11 @@ use Rattle.domain.specs.Tables.{Domain, grant, between}
 use Rattle.domain.specs.Events.{step}
 use Rattle.domain.specs.Good.{Good}
 use Rattle.domain.specs.History.{Entry, Start, History, _▹_}
-use Rattle.domain.specs.Claims.{formed, Turn as EventTurn, Run as EventRun, run as event-run, now, past, turned, goes}
+use Rattle.domain.specs.Claims.{formed, Turn as EventTurn, Run as EventRun, run as event-run, now, past, next-run, goes}
 use Rattle.domain.proofs.invariant.Sound.{between-is}
 use Rattle.domain.proofs.invariant.GoodIsSound.{good-sound}
 use Rattle.domain.proofs.invariant.Invariant.{grant-free, good-next}
-use Rattle.domain.specs.Outcomes.{turned as answer-turned, after}
+use Rattle.domain.specs.Outcomes.{step-settled as answer-turned, after}
 use Rattle.history.specs.Recorded.{read-note, read-records, read}
 use Rattle.history.specs.Served.{Turn, event, Bytewise, All-bytewise, Run, tables, notes, noted, served, serves}
 use Rattle.history.proofs.ReadBack.{Readables, read-back}
@@ -65,7 +65,7 @@ pub record Follows (s : Start) (r : Run) (q : EventRun) : Type 0 where
 -- turn by turn, from any good tables and histories that say the same
 pub follows : (b : Start) (ts : List Turn) (r : Run) (h : History) → Good (tables r) → Alike (read b (notes r)) h → All-bytewise ts
     → Follows b (serves r ts) (goes (event-run (tables r) h) (map as-event ts))
-unfolding serves goes turned now past served tables notes read after answer-turned
+unfolding serves goes next-run now past served tables notes read after answer-turned
 follows b [] r h g s y = record { same-tables = refl; alike = s }
 follows b (t ∷ ts) r h g s y =
     follows b ts (served r t) (entry (tables r) t ▹ h) (good-next (tables r) g (event (t .0)) (length (t .1)) (event-formed (t .0) (y .0))) (note-like r t g (y .0), s) (y .1)

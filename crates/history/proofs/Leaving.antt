@@ -8,7 +8,7 @@ use Rattle.codec_table.specs.Named.{DUrq, fields}
 use Rattle.domain.specs.Tables.{Domain}
 use Rattle.domain.specs.Events.{Reading, Outcome, hears, step}
 use Rattle.domain.specs.Good.{Good}
-use Rattle.domain.specs.Outcomes.{turned, after}
+use Rattle.domain.specs.Outcomes.{step-settled, after}
 use Rattle.domain_laws.specs.LeavingInTwo.{Report, reported, Has-room as Report-has-room, Names-both}
 use Rattle.domain.proofs.invariant.Invariant.{good-next}
 use Rattle.domain_laws.proofs.intwo.Reports.{in-two}
@@ -49,7 +49,7 @@ module _ (r : Run) (g : Good (tables r)) (p : ℕ) (whole a b : Detaching) where
   d = tables r
 
   in-room : Where-room r p whole a b (Equal-tables r p whole a b)
-  unfolding serves served tables after turned
+  unfolding serves served tables after step-settled
   in-room both fw fa fab =
       ap (λ (o : Outcome). o .domain) (is-report then-d p b)
       ∙ ap (λ (e : Domain). reported e p (report e p b) .domain) first
@@ -66,7 +66,7 @@ module _ (r : Run) (g : Good (tables r)) (p : ℕ) (whole a b : Detaching) where
       first = ap (λ (o : Outcome). o .domain) (is-report d p a)
 
   ample : Where-ample r p whole a b (Equal-tables r p whole a b)
-  unfolding served tables after turned
+  unfolding served tables after step-settled
   ample both hw ha hb = in-room both (never-full d p whole g hw) (never-full d p a g ha) (never-full (outcome d p a .domain) p b (report-good d p a g) hb)
 
   -- what the public functions did is such a run

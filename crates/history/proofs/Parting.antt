@@ -5,7 +5,7 @@ use mathlib.Core.List.{List, [], _++_}
 use Prim.Native.Nat.{ℕ, _≤_}
 use native.Mathlib.Omega.{arith}
 use lib.ListN.{length, getD}
-use Rattle.cols_spec.specs.Sets.{if_then_else_, null, each, once, has, with, meet, links, seats}
+use Rattle.cols_spec.specs.Sets.{if_then_else_, null, each, once, has, with, meet, connections, seats}
 use Rattle.cols_spec.specs.Places.{Place, At, Nowhere, find, inOrder, load}
 use Rattle.cols_spec.proofs.Order.{in-order-length}
 use Rattle.cols_spec.proofs.Rows.{find-holds}
@@ -49,7 +49,7 @@ module _ (d : Domain) (s : Sound d) where
   unfolding ended
   ended-told gone live c Static h = tt
   ended-told gone live c UserId h = tt
-  ended-told gone live c (Private g adm) h = all-either (has gone g) _ _ (all-told (meet links (hosts (d .users) (with seats adm g)) live) (CDin c) (CDin-readable c h)) tt
+  ended-told gone live c (Private g adm) h = all-either (has gone g) _ _ (all-told (meet connections (hosts (d .users) (with seats adm g)) live) (CDin c) (CDin-readable c h)) tt
   ended-told gone live c Assigned h = tt
 
   -- the channel of an id

@@ -12,7 +12,7 @@ use Rattle.codec_table.specs.Codec.{ok}
 use Rattle.codec_table.specs.Named.{Message, formed, heard}
 use Rattle.codec_table.proofs.NamedLaws.{sizeOf, formed-sent, sent-heard}
 use Rattle.out_records.proofs.Laying.{framed-length}
-use Rattle.out_records.specs.Records.{Sent, to, wire, framed, octets, records}
+use Rattle.out_records.specs.Records.{Sent, to, wire, record-of, octets, records}
 use Rattle.history.specs.Recorded.{size, is-record, inside, carried, read-some, read-records}
 
 -- a message that the codec writes: fields in range, and not too long
@@ -33,34 +33,34 @@ wire-heard m r = sent-heard m (wire m) (formed-sent m (r .ranged) (r .few))
 -- ---- a record from the start of octets
 module _ (w : List ℕ) (q : ℕ) (rest : List ℕ) where
   -- as many octets follow as it has
-  pub framed-size : size (framed w q ++ rest) ≡ length w + 2
-  unfolding size framed
+  pub framed-size : size (record-of w q ++ rest) ≡ length w + 2
+  unfolding size record-of
   framed-size = omega arith
 
   -- it is a record
-  framed-is : is-record (framed w q ++ rest) ≡ true
-  unfolding is-record framed
+  framed-is : is-record (record-of w q ++ rest) ≡ true
+  unfolding is-record record-of
   framed-is =
-      let there = le-leb (2 + (length w + 2)) (length (framed w q ++ rest)) (omega (arith, length-append w rest)) in
+      let there = le-leb (2 + (length w + 2)) (length (record-of w q ++ rest)) (omega (arith, length-append w rest)) in
       rw (framed-size, le-leb 2 (length w + 2) (omega arith), there) refl
 
   -- its message is there
-  pub framed-inside : inside (framed w q ++ rest) ≡ w
-  unfolding inside framed
+  pub framed-inside : inside (record-of w q ++ rest) ≡ w
+  unfolding inside record-of
   framed-inside =
-      let shown : size (framed w q ++ rest) - 2 ≡ length w = omega (arith, framed-size) in
-      ap (λ (n : ℕ). take n (drop 4 (framed w q ++ rest))) shown ∙ take-append-seam w rest
+      let shown : size (record-of w q ++ rest) - 2 ≡ length w = omega (arith, framed-size) in
+      ap (λ (n : ℕ). take n (drop 4 (record-of w q ++ rest))) shown ∙ take-append-seam w rest
 
   -- and the next record behind it
-  pub framed-behind : drop (2 + size (framed w q ++ rest)) (framed w q ++ rest) ≡ rest
-  unfolding framed
+  pub framed-behind : drop (2 + size (record-of w q ++ rest)) (record-of w q ++ rest) ≡ rest
+  unfolding record-of
   framed-behind =
-      let past : 2 + size (framed w q ++ rest) ≡ suc (suc (suc (suc (length w)))) = omega (arith, framed-size) in
-      ap (λ (n : ℕ). drop n (framed w q ++ rest)) past ∙ drop-append-seam w rest
+      let past : 2 + size (record-of w q ++ rest) ≡ suc (suc (suc (suc (length w)))) = omega (arith, framed-size) in
+      ap (λ (n : ℕ). drop n (record-of w q ++ rest)) past ∙ drop-append-seam w rest
 
   -- it is read, and then the rest
-  framed-read : (n : ℕ) → read-some (suc n) (framed w q ++ rest) ≡ carried q (heard w) ++ read-some n rest
-  unfolding read-some framed
+  framed-read : (n : ℕ) → read-some (suc n) (record-of w q ++ rest) ≡ carried q (heard w) ++ read-some n rest
+  unfolding read-some record-of
   framed-read n = rw (framed-is, framed-inside, framed-behind) refl
 
 -- ---- all of them
@@ -84,7 +84,7 @@ read-all (to q m ∷ rs) (suc n) h r =
 pub records-more : (rs : List Sent) → length rs ≤ length (records rs)
 unfolding records octets
 records-more [] = zero-le
-records-more (to q m ∷ rs) = omega (arith, records-more rs, length-append (framed (wire m) q) (records rs), framed-length (wire m) q)
+records-more (to q m ∷ rs) = omega (arith, records-more rs, length-append (record-of (wire m) q) (records rs), framed-length (wire m) q)
 
 -- what is sent is read
 pub read-back : (rs : List Sent) → Readables rs → read-records (records rs) ≡ rs

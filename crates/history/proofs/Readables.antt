@@ -6,7 +6,7 @@ use mathlib.Core.Option.{Option, none, some}
 use Prim.Native.Nat.{ℕ, zero, suc, _≤_, zero-le}
 use native.Mathlib.Omega.{arith}
 use lib.ListN.{length, take, length-take}
-use Rattle.cols_spec.specs.Sets.{if_then_else_, keep, each, listed, links}
+use Rattle.cols_spec.specs.Sets.{if_then_else_, keep, each, listed, connections}
 use Rattle.codec_octets.specs.Octets.{Bytes, anOctet, anId}
 use Rattle.codec_table.specs.Limits.{message-limit}
 use Rattle.codec_table.specs.Named.{Message, RJum, AUcf, DUin, CJcf, CCcf, CDin, CAin, CEin, TGcf, TIcf, TVcf, TRcf, TVin, TPin, TTcf}
@@ -118,7 +118,7 @@ all-append (to q m ∷ rs) ts a b = (a .0, all-append rs ts (a .1) b)
 -- one message to each connection of a mask
 pub all-told : (mask : ℕ) (m : Message) → Readable m → Readables (tell mask m)
 unfolding tell
-all-told mask m h = go (listed links mask)
+all-told mask m h = go (listed connections mask)
   where
     go : (qs : List ℕ) → Readables (map (λ q. to q m) qs)
     go [] = tt

@@ -8,7 +8,7 @@ use Rattle.domain.specs.Good.{Good}
 use Rattle.domain_laws.specs.Same.{Same}
 use Rattle.domain_laws.specs.View.{view}
 use Rattle.domain_laws.specs.Built.{built}
-use Rattle.domain.specs.Outcomes.{turned, after}
+use Rattle.domain.specs.Outcomes.{step-settled, after}
 use Rattle.domain.proofs.invariant.Invariant.{good-next}
 use Rattle.domain_laws.proofs.same.Steps.{steps}
 use Rattle.imaging.specs.Image.{image}
@@ -22,13 +22,13 @@ use Rattle.history.proofs.Called.{calls-run}
 
 -- what is noted says nothing of the places in the tables
 same-notes : (ts : List Turn) (d e : Domain) (ns ms : List Note) → Good d → Good e → Same d e → ns ≡ ms → All-bytewise ts → Unnoticed (serves (run d ns) ts) (serves (run e ms) ts)
-unfolding serves served tables notes after turned
+unfolding serves served tables notes after step-settled
 same-notes [] d e ns ms g h s q y = record { same-notes = q; same-tables = s }
 same-notes (t ∷ ts) d e ns ms g h s q y =
     let f = event-formed (t .0) (y .0) in
     let a = steps d e (event (t .0)) (length (t .1)) g h s f in
     same-notes ts _ _ _ _ (good-next d g (event (t .0)) (length (t .1)) f) (good-next e h (event (t .0)) (length (t .1)) f) (a .tables)
-    (λ i. noting (t .0) (turned (record { reply = a .reply i; domain = d; sent = a .sent i }) (t .1)) ∷ q i) (y .1)
+    (λ i. noting (t .0) (step-settled (record { reply = a .reply i; domain = d; sent = a .sent i }) (t .1)) ∷ q i) (y .1)
 
 -- so of tables that were written and read again
 pub restart-unnoticed : unnoticed

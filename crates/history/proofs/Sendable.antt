@@ -7,7 +7,7 @@ use native.Mathlib.Omega.{arith}
 use lib.Dec.{eqb, ltb}
 use lib.ListN.{length}
 use Rattle.codec_octets.specs.Octets.{Bytes}
-use Rattle.cols_spec.specs.Sets.{if_then_else_, has, with, links}
+use Rattle.cols_spec.specs.Sets.{if_then_else_, has, with, connections}
 use Rattle.codec_table.specs.Named.{Message, EDrq, DPum, RJum, AUrq, AUcf, DUrq, DUin, CJrq, CJcf, CLrq, CCrq, CCcf, CDrq, CDin, CArq, CAin, CErq, CEin}
 use Rattle.codec_table.specs.Named.{TGrq, TGcf, TIrq, TIcf, TVrq, TVin, TVrs, TVcf, TPrq, TPin, TRrq, TRcf, TTrq, TTcf, formed}
 use Rattle.codec_table.proofs.NamedLaws.{User, ranges}
@@ -108,7 +108,7 @@ module _ (d : Domain) (s : Sound d) where
     unfolding step step-with
     sent-readable (opens p) room l = go (ltb 15 p) (has (d .links) p)
       where
-        go : (a b : Bool) → Readables ((if a then stays d 2 else if b then stays d 3 else record { reply = 0; domain = put-links d (with links (d .links) p); sent = [] }) .sent)
+        go : (a b : Bool) → Readables ((if a then stays d 2 else if b then stays d 3 else record { reply = 0; domain = put-links d (with connections (d .links) p); sent = [] }) .sent)
         go true b = tt
         go false true = tt
         go false false = tt

@@ -6,7 +6,7 @@ use Prim.Native.Nat.{ℕ, _≤_}
 use native.Mathlib.Omega.{arith}
 use lib.Dec.{eqb}
 use lib.ListN.{length}
-use Rattle.cols_spec.specs.Sets.{if_then_else_, keep, null, each, below, once, links}
+use Rattle.cols_spec.specs.Sets.{if_then_else_, keep, null, each, below, once, connections}
 use Rattle.cols_spec.specs.Places.{Place, At, Nowhere, find, found}
 use Rattle.cols_spec.proofs.Order.{keep-le}
 use Rattle.cols_spec.proofs.Rows.{find-holds}
@@ -58,7 +58,7 @@ module _ (d : Domain) (s : Sound d) where
   -- a message to each connection with such ids
   own-told : (ids : List ℕ) (say : (List ℕ → Message)) → length ids ≤ 64 → ((vs : List ℕ) → Users vs → Readable (say vs)) → Readables (own (d .users) ids say)
   unfolding own those-on
-  own-told ids say h r = all-each _ (λ q. all-either (null (those-on (d .users) q ids)) _ _ tt (r (those-on (d .users) q ids) (those-users q ids h), tt)) (below links)
+  own-told ids say h r = all-each _ (λ q. all-either (null (those-on (d .users) q ids)) _ _ tt (r (those-on (d .users) q ids) (those-users q ids h), tt)) (below connections)
 
   module _ (p u c : ℕ) (ids : List ℕ) (few : length ids ≤ 64) (chan : User c) where
     -- of listed ids no more are left

@@ -4,7 +4,7 @@ use mathlib.Core.Option.{Option, none, some}
 use Prim.Native.Nat.{ℕ}
 use Rattle.domain.specs.History.{nothing-yet, home, Gain, nothing, by-grab, gain}
 use Rattle.domain.proofs.Opened.{opened}
-use Rattle.domain.specs.Outcomes.{turned, after, begun}
+use Rattle.domain.specs.Outcomes.{step-settled, after, begun}
 use Rattle.serve_read.specs.Understood.{number-in, read-as, understood}
 use Rattle.history.specs.Recorded.{read-call, size, is-record, inside, carried, read-some, read-records, read-note, read}
 use Rattle.history.specs.Served.{event, tables, notes, served, serves, started}
@@ -12,7 +12,7 @@ use Rattle.history.specs.Example.{attaching, grabbing, room, turns, end,
 
 -- the octets sent are those of document 01
 pub as-noted : notes end ≡ all-notes
-unfolding opened number-in read-as understood turned after begun event tables notes served serves started attaching grabbing room turns end held-notes all-notes
+unfolding opened number-in read-as understood step-settled after begun event tables notes served serves started attaching grabbing room turns end held-notes all-notes
 as-noted = refl
 
 -- 1001 is attached on 2 and holds token 1 until the loss

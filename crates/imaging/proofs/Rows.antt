@@ -5,7 +5,7 @@ use Prim.Native.Nat.{ℕ, zero, suc, _<_, _^_}
 use lib.Dec.{leb}
 use Rattle.codec_octets.specs.Octets.{got, give, octet, number, Bytes}
 use Rattle.codec_octets.proofs.OctetLaws.{refused, followed, needed, go-on}
-use Rattle.cols_spec.specs.Sets.{all, listed, those, member, links}
+use Rattle.cols_spec.specs.Sets.{all, listed, those, member, connections}
 use Rattle.domain.specs.declared.Limits.{Limits}
 use Rattle.domain.specs.Outcomes.{limited}
 use Rattle.domain_laws.specs.Same.{Role, static, user-id, assigned, private-of, Standing, nobody, grabbed, inhibited, giving, given}

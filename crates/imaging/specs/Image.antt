@@ -5,7 +5,7 @@ use mathlib.Core.List.{List, [], _∷_, _++_}
 use lib.Dec.{ltb}
 use lib.ListN.{length, drop}
 use Rattle.codec_octets.specs.Octets.{octetsOf}
-use Rattle.cols_spec.specs.Sets.{if_then_else_, each, listed, links}
+use Rattle.cols_spec.specs.Sets.{if_then_else_, each, listed, connections}
 use Rattle.domain.specs.declared.Limits.{Limits}
 use Rattle.domain.specs.Effects.{Settled, settled}
 use Rattle.domain.specs.Tables.{Domain}
@@ -76,7 +76,7 @@ limit-octets l = one (l .channels) ++ (one (l .users) ++ one (l .tokens))
 
 -- the open connections, ascending
 unfoldable pub link-rows : ℕ → List ℕ
-link-rows m = rows one (listed links m)
+link-rows m = rows one (listed connections m)
 
 -- what follows the version: limits, open connections, users, channels and tokens
 unfoldable pub contents : View → List ℕ

@@ -6,7 +6,7 @@ use mathlib.Core.Option.{Option, none, some}
 use lib.Dec.{eqb, leb}
 use lib.ListN.{length, getD}
 use Rattle.codec_octets.specs.Octets.{Read, got, no, Reader, _>>=_, give, fail, need, octet, number}
-use Rattle.cols_spec.specs.Sets.{if_then_else_, all, member, those, links}
+use Rattle.cols_spec.specs.Sets.{if_then_else_, all, member, those, connections}
 use Rattle.domain.specs.declared.Limits.{Limits}
 use Rattle.domain.specs.Tables.{in-range}
 use Rattle.domain.specs.Outcomes.{limited}
@@ -67,7 +67,7 @@ upward (x ∷ xs) = ascending x xs
 
 -- the open connections: ascending, at most 15; as a mask
 unfoldable pub read-links : Reader ℕ
-read-links = read-rows octet >>= λ qs. need (upward qs && all (λ q. leb q 15) qs) 12 (give (those links λ q. member q qs))
+read-links = read-rows octet >>= λ qs. need (upward qs && all (λ q. leb q 15) qs) 12 (give (those connections λ q. member q qs))
 
 -- what follows the version: limits, open connections, users, channels and tokens
 unfoldable pub read-contents : Reader View

@@ -7,7 +7,7 @@ use lib.Seq.{take-append-seam}
 use Rattle.out_records.specs.Records.{records}
 use Rattle.domain.specs.Tables.{Domain, fresh}
 use Rattle.domain.specs.Events.{Outcome, step}
-use Rattle.domain.specs.Outcomes.{turned, after, limited, begun}
+use Rattle.domain.specs.Outcomes.{step-settled, after, limited, begun}
 use Rattle.history.specs.Recorded.{Call}
 use Rattle.history.specs.Served.{event, Turn, All-bytewise, Run, run, tables, notes, served, serves, started}
 use Rattle.history.proofs.Called.{start-calls}
@@ -31,7 +31,7 @@ sent-frames o out = rw (take-append-seam (records (o .sent)) (drop (length (reco
 
 -- one turn
 one-more : (r : Run) (t : Turn) (ts : List (Call × ℕ)) → traced (notes (served r t)) ++ our-trace (tables (served r t)) ts ≡ traced (notes r) ++ our-trace (tables r) ((t .0, length (t .1)) ∷ ts)
-unfolding traced notes tables served our-trace after turned
+unfolding traced notes tables served our-trace after step-settled
 one-more r t ts =
     let o : Outcome = step (tables r) (event (t .0)) (length (t .1)) in
     let os : List ℕ = take (length (records (o .sent))) (records (o .sent) ++ drop (length (records (o .sent))) (t .1)) in
@@ -52,7 +52,7 @@ none-before (t ∷ ts) r h = none-before ts (served r t) h .1
 
 -- so there was room for every answer
 all-roomy : (ts : List Turn) (r : Run) → All-bytewise ts → None-9 (notes (serves r ts)) → Roomy (tables r) (map sized ts)
-unfolding serves served notes tables after turned
+unfolding serves served notes tables after step-settled
 all-roomy [] r y h = tt
 all-roomy (t ∷ ts) r y h = (y .0, none-before ts (served r t) h .0, all-roomy ts (served r t) (y .1) h)
 

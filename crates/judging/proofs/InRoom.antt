@@ -11,7 +11,7 @@ use lib.ListN.{length, getD, take, drop, set, length-append, length-set, length-
 use lib.Seq.{length-take-le, take-append-le, drop-append-le, drop-at, getD-take, getD-set-same, getD-set-other, drop-set-lt}
 use Rattle.cols_spec.specs.Sets.{if_then_else_, null}
 use Rattle.cols_spec.proofs.Bools.{and-parts, none≢some}
-use Rattle.out_records.specs.Records.{Sent, to, wire, framed, octets, records}
+use Rattle.out_records.specs.Records.{Sent, to, wire, record-of, octets, records}
 use Rattle.domain.specs.Tables.{Domain}
 use Rattle.domain.specs.Events.{Outcome}
 use Rattle.history.specs.Recorded.{size, inside}
@@ -26,13 +26,13 @@ use Rattle.judging.proofs.Judged.{judged-step}
 
 module _ (w : List ℕ) (q : ℕ) (rest : List ℕ) where
   -- a record that was just written starts there, and stands
-  framed-starts : starts (framed w q ++ rest) ≡ true
-  unfolding starts framed
+  framed-starts : starts (record-of w q ++ rest) ≡ true
+  unfolding starts record-of
   framed-starts =
-      rw (framed-size w q rest, le-leb 2 (length w + 2) (omega arith), le-leb (2 + (length w + 2)) (length (framed w q ++ rest)) (omega (arith, length-append w rest))) refl
+      rw (framed-size w q rest, le-leb 2 (length w + 2) (omega arith), le-leb (2 + (length w + 2)) (length (record-of w q ++ rest)) (omega (arith, length-append w rest))) refl
 
-  framed-packets : (n : ℕ) → some-packets (suc n) (framed w q ++ rest) ≡ on q w ∷ some-packets n rest
-  unfolding some-packets stands packet framed
+  framed-packets : (n : ℕ) → some-packets (suc n) (record-of w q ++ rest) ≡ on q w ∷ some-packets n rest
+  unfolding some-packets stands packet record-of
   framed-packets n = rw (framed-starts, framed-inside w q rest, framed-behind w q rest) refl
 
 none-there : (n : ℕ) → some-packets n [] ≡ []

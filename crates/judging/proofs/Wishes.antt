@@ -4,7 +4,7 @@ use lib.ListN.{length, drop}
 use lib.Seq.{take-append-seam}
 use Rattle.out_records.specs.Records.{records}
 use Rattle.domain.specs.Events.{Outcome, step, step-with}
-use Rattle.domain.specs.Outcomes.{turned, after}
+use Rattle.domain.specs.Outcomes.{step-settled, after}
 use Rattle.history.specs.Served.{event}
 use Rattle.judging.specs.Judge.{chosen}
 use Rattle.judging.specs.Wished.{after-wished, no-wish, never-wished, wish-steps}
@@ -22,7 +22,7 @@ never wish d p out = (refl, refl)
 
 -- the judge's step
 pub steps : wish-steps
-unfolding after-wished turned
+unfolding after-wished step-settled
 steps wish d c out g y h =
     let e = roomy d (chosen (d .channels) wish) c (length out) g y (chosen-free d g wish) h in
     let rs = step-with (chosen (d .channels) wish) d (event c) (length out) .sent in

@@ -7,7 +7,7 @@ use Rattle.out_records.specs.Records.{records}
 use Rattle.domain.specs.Tables.{Domain}
 use Rattle.domain.specs.Effects.{Settled}
 use Rattle.domain.specs.Events.{Event, opens, loses, step-with}
-use Rattle.domain.specs.Outcomes.{turned, after}
+use Rattle.domain.specs.Outcomes.{step-settled, after}
 use Rattle.domain.specs.Good.{Good}
 use Rattle.history.specs.Recorded.{Call}
 use Rattle.history.specs.Served.{event, Bytewise}
@@ -16,7 +16,7 @@ use Rattle.judging.specs.Judge.{chosen}
 
 -- the id `wish` is handed out where it is free and from 1001, else our own
 unfoldable pub after-wished : (wish : ℕ) (d : Domain) (e : Event) (out : List ℕ) → Settled Domain
-after-wished wish d e out = turned (step-with (chosen (d .channels) wish) d e (length out)) out
+after-wished wish d e out = step-settled (step-with (chosen (d .channels) wish) d e (length out)) out
 
 -- with no wish it is what is promised now
 abbrev pub no-wish : Type 0

@@ -6,7 +6,7 @@ ghost use Prim.Native.Nat.{ℕ, _-_, _/_, _%_, _≤_};
 ghost use lib.ListN.{length};
 ghost use Rattle.codec_table.specs.Limits.{list-limit};
 ghost use Rattle.codec_table.specs.Named.{successful, AUcf, CJcf, CCcf, CDin, TTcf, TVin, TPin, CAin, CEin};
-ghost use Rattle.out_records.specs.Records.{wire, framed};
+ghost use Rattle.out_records.specs.Records.{wire, record-of};
 ghost use Rattle.out_records.specs.Out.{each-two};
 ghost use Rattle.out_messages.specs.Confirms.{confirm, number};
 
@@ -170,7 +170,7 @@ pub fn disband_indication(channel: u16) -> [u8; 3]
 
 // What stands before the users in the record of a CAin, or a CEin, of so many users to connection q.
 pub fn admit_start(q: u8, manager: u16, channel: u16, count: u8) -> [u8; 10]
-    ensures { λ r. ⌜ ((ids : List ℕ) → length ids ≡ count → length ids ≤ list-limit → framed (wire (CAin manager channel ids)) q ≡ r ++ each-two 1001 ids) ⌝ }
+    ensures { λ r. ⌜ ((ids : List ℕ) → length ids ≡ count → length ids ≤ list-limit → record-of (wire (CAin manager channel ids)) q ≡ r ++ each-two 1001 ids) ⌝ }
 {
     let n = count as u16 * 2 + 8;
     [
@@ -188,7 +188,7 @@ pub fn admit_start(q: u8, manager: u16, channel: u16, count: u8) -> [u8; 10]
 }
 
 pub fn expel_start(q: u8, channel: u16, count: u8) -> [u8; 8]
-    ensures { λ r. ⌜ ((ids : List ℕ) → length ids ≡ count → length ids ≤ list-limit → framed (wire (CEin channel ids)) q ≡ r ++ each-two 1001 ids) ⌝ }
+    ensures { λ r. ⌜ ((ids : List ℕ) → length ids ≡ count → length ids ≤ list-limit → record-of (wire (CEin channel ids)) q ≡ r ++ each-two 1001 ids) ⌝ }
 {
     let n = count as u16 * 2 + 6;
     [

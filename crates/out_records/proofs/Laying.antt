@@ -12,7 +12,7 @@ use lib.ListN.{length, take, drop, getD, set, length-append, length-drop, drop-o
 use lib.Seq.{take-at, sets, sets-eq, length-sets, take-all, drop-cons}
 use Rattle.cols_spec.proofs.Bools.{and-parts}
 use Rattle.codec_table.specs.Limits.{message-limit}
-use Rattle.out_records.specs.Records.{two, framed}
+use Rattle.out_records.specs.Records.{two, record-of}
 use Rattle.out_records.specs.Out.{Puts, allowed, guarded, each-two}
 
 -- ---- one put behind another
@@ -157,8 +157,8 @@ unfolding each-two
 ids-length low [] = refl
 ids-length low (x ∷ xs) = omega (arith, ids-length low xs)
 
-pub framed-length : (m : List ℕ) (q : ℕ) → length (framed m q) ≡ length m + 4
-unfolding framed
+pub framed-length : (m : List ℕ) (q : ℕ) → length (record-of m q) ≡ length m + 4
+unfolding record-of
 framed-length m q = omega arith
 
 -- ---- a message of three octets: the octets of its record, stored one by one
@@ -170,10 +170,10 @@ three (a ∷ b ∷ c ∷ []) h = refl
 three (a ∷ b ∷ c ∷ d ∷ m) h = absurd (omega arith)
 
 put-seven : (s : List ℕ) (at q a b c : ℕ)
-    → Puts s at (framed (a ∷ b ∷ c ∷ []) q) (set (set (set (set (set (set (set s at 0) (at + 1) 5) (at + 2) 1) (at + 3) q) (at + 4) a) (at + 5) b) (at + 6) c) (at + 7)
-unfolding framed
+    → Puts s at (record-of (a ∷ b ∷ c ∷ []) q) (set (set (set (set (set (set (set s at 0) (at + 1) 5) (at + 2) 1) (at + 3) q) (at + 4) a) (at + 5) b) (at + 6) c) (at + 7)
+unfolding record-of
 put-seven s at q a b c = record { laid = simp towards-suc; next = refl }
 
 pub put-three : (s : List ℕ) (at q : ℕ) (m : List ℕ) {n : ℕ} → length m ≡ 3 → n ≡ at + 7
-    → Puts s at (framed m q) (set (set (set (set (set (set (set s at 0) (at + 1) 5) (at + 2) 1) (at + 3) q) (at + 4) (getD m 0 0)) (at + 5) (getD m 1 0)) (at + 6) (getD m 2 0)) n
+    → Puts s at (record-of m q) (set (set (set (set (set (set (set s at 0) (at + 1) 5) (at + 2) 1) (at + 3) q) (at + 4) (getD m 0 0)) (at + 5) (getD m 1 0)) (at + 6) (getD m 2 0)) n
 put-three s at q m h e = rw (e, ← three m h) (put-seven s at q (getD m 0 0) (getD m 1 0) (getD m 2 0))

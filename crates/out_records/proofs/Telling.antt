@@ -9,11 +9,11 @@ use native.Mathlib.Omega.{arith}
 use lib.Dec.{ltb}
 use lib.ListN.{length, length-append}
 use borrow.Author.Tests.{ltb-true, ltb-false}
-use Rattle.cols_spec.specs.Sets.{if_then_else_, keep, each, upto, below, has, listed, links, NextIn}
+use Rattle.cols_spec.specs.Sets.{if_then_else_, keep, each, upto, below, has, listed, connections, NextIn}
 use Rattle.cols_spec.proofs.Nexts.{next-behind, next-keeps}
 use Rattle.codec_table.specs.Limits.{message-limit}
 use Rattle.codec_table.specs.Named.{Message}
-use Rattle.out_records.specs.Records.{Sent, to, tell, wire, framed, octets, records}
+use Rattle.out_records.specs.Records.{Sent, to, tell, wire, record-of, octets, records}
 use Rattle.out_records.specs.Out.{Puts, allowed, guarded, told-to, told}
 use Rattle.out_records.proofs.Laying.{framed-length, guarded-in, guarded-all, guarded-none, allowed-parts, put-none, put-then, Onward, onward-start, onward-step, onward-end}
 
@@ -56,7 +56,7 @@ module _ (mask : ℕ) (m : List ℕ) where
       let e : 16 - q ≡ 0 = omega arith in
       rw e refl
 
-  told-one : (q : ℕ) → has mask q ≡ true → told-to mask m q ≡ framed m q
+  told-one : (q : ℕ) → has mask q ≡ true → told-to mask m q ≡ record-of m q
   unfolding told-to
   told-one q e = rw e refl
 
@@ -75,7 +75,7 @@ module _ (mask : ℕ) (m : List ℕ) where
   telling-past : {from r : ℕ} → NextIn mask from r → from ≤ 64 → telling mask m from ≡ telling mask m r
   telling-past {from} x l = next-keeps x l (λ (k : ℕ). telling mask m from ≡ telling mask m k) (λ k a e p. p ∙ telling-skip k e) refl
 
-  telling-on : (q : ℕ) → q < 16 → has mask q ≡ true → {r : ℕ} → NextIn mask (q + 1) r → telling mask m q ≡ framed m q ++ telling mask m r
+  telling-on : (q : ℕ) → q < 16 → has mask q ≡ true → {r : ℕ} → NextIn mask (q + 1) r → telling mask m q ≡ record-of m q ++ telling mask m r
   telling-on q h e x = telling-next q h ∙ ap₂ (λ (os ps : List ℕ). os ++ ps) (told-one q e) (telling-past x (omega arith))
 
   told-most : (q : ℕ) → length (told-to mask m q) ≤ length m + 4
@@ -101,7 +101,7 @@ module _ (mask : ℕ) (m : List ℕ) {s₀ : List ℕ} {from : ℕ} where
 
   -- a turn: the record for q is put, however it is laid, and r is the next
   pub told-turn : {s : List ℕ} {at q : ℕ} {t : List ℕ} {n r : ℕ} → length m ≤ message-limit → q < 16
-      → Told mask m s₀ from s at q → Puts s at (framed m q) t n → NextIn mask (q + 1) r → Told mask m s₀ from t n r
+      → Told mask m s₀ from s at q → Puts s at (record-of m q) t n → NextIn mask (q + 1) r → Told mask m s₀ from t n r
   told-turn {q = q} l h w p x = record {
     here = λ h. x .here h .1;
     near = omega (arith, w .near, p .next, framed-length m q, next-behind x (omega arith));
@@ -121,13 +121,13 @@ pub records-none : records [] ≡ []
 unfolding records
 records-none = refl
 
-pub records-one : (q : ℕ) (s : Message) → records (to q s ∷ []) ≡ framed (wire s) q
+pub records-one : (q : ℕ) (s : Message) → records (to q s ∷ []) ≡ record-of (wire s) q
 unfolding records octets
-records-one q s = append-nil (framed (wire s) q)
+records-one q s = append-nil (record-of (wire s) q)
 
 -- what is told is the records of the message to the mask's connections
 told-step : (q : ℕ) (s : Message) (b : Bool) (l : List ℕ)
-    → (if b then framed (wire s) q else []) ++ records (map (λ q. to q s) l) ≡ records (map (λ q. to q s) (if b then q ∷ l else l))
+    → (if b then record-of (wire s) q else []) ++ records (map (λ q. to q s) l) ≡ records (map (λ q. to q s) (if b then q ∷ l else l))
 unfolding records octets
 told-step q s true l = refl
 told-step q s false l = refl
@@ -139,12 +139,12 @@ told-each mask s (q ∷ l) = ap (λ (r : List ℕ). told-to mask (wire s) q ++ r
 
 pub told-is : (mask : ℕ) (s : Message) → told mask (wire s) ≡ records (tell mask s)
 unfolding told tell listed
-told-is mask s = told-each mask s (below links)
+told-is mask s = told-each mask s (below connections)
 
 -- ---- what a caller knows: a message's octets are put as its records
 module _ {s : List ℕ} {at : ℕ} {t : List ℕ} {n : ℕ} (x : Message) (m : List ℕ) (e : m ≡ wire x) (h : at ≤ 65535) (l : length m ≤ message-limit) where
-  pub put-sent : (q : ℕ) → Puts s at (guarded at m (framed m q)) t n → Puts s at (records (to q x ∷ [])) t n
-  put-sent q p = rw (records-one q x, ← e) (rw (guarded-in at m (framed m q) h l) at p)
+  pub put-sent : (q : ℕ) → Puts s at (guarded at m (record-of m q)) t n → Puts s at (records (to q x ∷ [])) t n
+  put-sent q p = rw (records-one q x, ← e) (rw (guarded-in at m (record-of m q) h l) at p)
 
   pub put-told : (mask : ℕ) → Puts s at (guarded at m (told mask m)) t n → Puts s at (records (tell mask x)) t n
   put-told mask p = rw (← told-is mask x, ← e) (rw (guarded-in at m (told mask m) h l) at p)
@@ -169,8 +169,8 @@ telling-length mask m k (suc n) =
 
 -- a record for each connection of the mask
 told-more : (b : Bool) (q n : ℕ) (m l rest : List ℕ) → length rest ≡ length l * n → length m + 4 ≡ n
-    → length ((if b then framed m q else []) ++ rest) ≡ length (if b then q ∷ l else l) * n
-told-more true q n m l rest e k = omega (arith, length-append (framed m q) rest, framed-length m q, suc-mul (length l) n)
+    → length ((if b then record-of m q else []) ++ rest) ≡ length (if b then q ∷ l else l) * n
+told-more true q n m l rest e k = omega (arith, length-append (record-of m q) rest, framed-length m q, suc-mul (length l) n)
 told-more false q n m l rest e k = e
 
 told-count : (mask : ℕ) (m l : List ℕ) → length (each (told-to mask m) l) ≡ length (keep (has mask) l) * (length m + 4)
@@ -178,29 +178,29 @@ unfolding each keep told-to
 told-count mask m [] = sym (zero-mul (length m + 4))
 told-count mask m (q ∷ l) = told-more (has mask q) q (length m + 4) m (keep (has mask) l) (each (told-to mask m) l) (told-count mask m l) refl
 
-pub told-size : (mask : ℕ) (m : List ℕ) → length (told mask m) ≡ length (listed links mask) * (length m + 4)
+pub told-size : (mask : ℕ) (m : List ℕ) → length (told mask m) ≡ length (listed connections mask) * (length m + 4)
 unfolding told listed
-told-size mask m = told-count mask m (below links)
+told-size mask m = told-count mask m (below connections)
 
 -- as many times the size of one record, which may be put or not
-module _ (m : List ℕ) (n : ℕ) (size : (q : ℕ) → n ≡ length (guarded 0 m (framed m q))) where
+module _ (m : List ℕ) (n : ℕ) (size : (q : ℕ) → n ≡ length (guarded 0 m (record-of m q))) where
   pub size-most : n ≤ message-limit + 4
   size-most = go (allowed 0 (length m)) refl
     where
       go : (b : Bool) → b ≡ allowed 0 (length m) → n ≤ message-limit + 4
-      go true e = omega (arith, size 0, ap length (guarded-all true 0 m (framed m 0) e refl), framed-length m 0, allowed-parts true 0 (length m) e refl .1)
-      go false e = omega (arith, size 0, ap length (guarded-none false 0 m (framed m 0) e refl))
+      go true e = omega (arith, size 0, ap length (guarded-all true 0 m (record-of m 0) e refl), framed-length m 0, allowed-parts true 0 (length m) e refl .1)
+      go false e = omega (arith, size 0, ap length (guarded-none false 0 m (record-of m 0) e refl))
 
-  pub size-told : (mask : ℕ) → length (listed links mask) * n ≡ length (guarded 0 m (told mask m))
+  pub size-told : (mask : ℕ) → length (listed connections mask) * n ≡ length (guarded 0 m (told mask m))
   size-told mask = go (allowed 0 (length m)) refl
     where
-      go : (b : Bool) → b ≡ allowed 0 (length m) → length (listed links mask) * n ≡ length (guarded 0 m (told mask m))
+      go : (b : Bool) → b ≡ allowed 0 (length m) → length (listed connections mask) * n ≡ length (guarded 0 m (told mask m))
       go true e =
           rw (guarded-all true 0 m (told mask m) e refl, told-size mask m)
-          (ap (λ (k : ℕ). length (listed links mask) * k) (size 0 ∙ ap length (guarded-all true 0 m (framed m 0) e refl) ∙ framed-length m 0))
+          (ap (λ (k : ℕ). length (listed connections mask) * k) (size 0 ∙ ap length (guarded-all true 0 m (record-of m 0) e refl) ∙ framed-length m 0))
       go false e =
           rw (guarded-none false 0 m (told mask m) e refl)
-          (ap (λ (k : ℕ). length (listed links mask) * k) (size 0 ∙ ap length (guarded-none false 0 m (framed m 0) e refl)) ∙ mul-zero (length (listed links mask)))
+          (ap (λ (k : ℕ). length (listed connections mask) * k) (size 0 ∙ ap length (guarded-none false 0 m (record-of m 0) e refl)) ∙ mul-zero (length (listed connections mask)))
 
 pub told-length : (mask : ℕ) (x : Message) → length (records (tell mask x)) ≤ 16 * (length (wire x) + 4)
 told-length mask x = rw (← told-is mask x, ← telling-all mask (wire x)) (telling-length mask (wire x) 0 16)

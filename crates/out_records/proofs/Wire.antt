@@ -13,7 +13,7 @@ use Rattle.codec_table.specs.Messages.{Row, entry, row}
 use Rattle.codec_table.specs.Limits.{list-limit}
 use Rattle.codec_table.specs.Codec.{octetsOfMsg}
 use Rattle.codec_table.specs.Named.{Message, fields, msg, maybe, RJum, AUcf, DUin, CJcf, CCcf, CDin, CAin, CEin, TTcf, TVin, TPin}
-use Rattle.out_records.specs.Records.{two, wire, framed}
+use Rattle.out_records.specs.Records.{two, wire, record-of}
 use Rattle.out_records.specs.Out.{Puts, each-two, listing}
 use Rattle.out_records.proofs.Laying.{put-none, ids-length}
 
@@ -92,14 +92,14 @@ module _ (ids : List ℕ) (h : length ids < 128) where
 
 -- the record of such a message for connection q: what stands before its n users, and they
 module _ (ids : List ℕ) (n : ℕ) (e : length ids ≡ n) (h : length ids ≤ list-limit) (q : ℕ) where
-  sized : (m : List ℕ) (s : ℕ) → length m + 2 ≡ s → framed m q ≡ two s ++ 1 ∷ q ∷ m
-  unfolding framed
+  sized : (m : List ℕ) (s : ℕ) → length m + 2 ≡ s → record-of m q ≡ two s ++ 1 ∷ q ∷ m
+  unfolding record-of
   sized m s l = ap (λ (k : ℕ). two k ++ 1 ∷ q ∷ m) l
 
-  pub start-CAin : (u k : ℕ) → framed (wire (CAin u k ids)) q ≡ two (n * 2 + 8) ++ 1 ∷ q ∷ 88 ∷ two (u - 1001) ++ two (k - 1001) ++ n ∷ each-two 1001 ids
+  pub start-CAin : (u k : ℕ) → record-of (wire (CAin u k ids)) q ≡ two (n * 2 + 8) ++ 1 ∷ q ∷ 88 ∷ two (u - 1001) ++ two (k - 1001) ++ n ∷ each-two 1001 ids
   start-CAin u k = rw (wire-CAin ids (omega arith) u k) (sized _ (n * 2 + 8) (omega (arith, ids-length 1001 ids)) ∙ rw e)
 
-  pub start-CEin : (k : ℕ) → framed (wire (CEin k ids)) q ≡ two (n * 2 + 6) ++ 1 ∷ q ∷ 96 ∷ two (k - 1001) ++ n ∷ each-two 1001 ids
+  pub start-CEin : (k : ℕ) → record-of (wire (CEin k ids)) q ≡ two (n * 2 + 6) ++ 1 ∷ q ∷ 96 ∷ two (k - 1001) ++ n ∷ each-two 1001 ids
   start-CEin k = rw (wire-CEin ids (omega arith) k) (sized _ (n * 2 + 6) (omega (arith, ids-length 1001 ids)) ∙ rw e)
 
 pub wire-RJum : (d : ℕ) (os : List ℕ) → d < 256 → length os < 128 → wire (RJum d os) ≡ (36 + d / 4) ∷ (d % 4 * 64) ∷ length os ∷ os

@@ -7,8 +7,8 @@ use lib.Dec.{leb}
 use lib.ListN.{length}
 use lib.Seq.{sets}
 use Rattle.codec_table.specs.Limits.{list-limit, message-limit}
-use Rattle.cols_spec.specs.Sets.{if_then_else_, has, below, each, links}
-use Rattle.out_records.specs.Records.{two, framed}
+use Rattle.cols_spec.specs.Sets.{if_then_else_, has, below, each, connections}
+use Rattle.out_records.specs.Records.{two, record-of}
 
 -- the octets `os` are put into `s` from place `at`, which gives `t`; `n` is the place behind them, whether they fit or not
 pub record Puts (s : List ℕ) (at : ℕ) (os t : List ℕ) (n : ℕ) : Type 0 where
@@ -30,11 +30,11 @@ each-two low (x ∷ xs) = two (x - low) ++ each-two low xs
 
 -- the record of a message for connection q, where the mask has it
 unfoldable pub told-to : (mask : ℕ) (m : List ℕ) (q : ℕ) → List ℕ
-told-to mask m q = if has mask q then framed m q else []
+told-to mask m q = if has mask q then record-of m q else []
 
 -- the records of a message for each connection of the mask, ascending
 unfoldable pub told : (mask : ℕ) (m : List ℕ) → List ℕ
-told mask m = each (told-to mask m) (below links)
+told mask m = each (told-to mask m) (below connections)
 
 -- the octets of a message with a list, where the list is within its limit
 unfoldable pub listing : (ids os : List ℕ) → List ℕ

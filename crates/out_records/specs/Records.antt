@@ -2,7 +2,7 @@
 use Prim.Native.Nat.{ℕ, _+_, _/_, _%_}
 use mathlib.Core.List.{List, [], _∷_, _++_, map}
 use lib.ListN.{length}
-use Rattle.cols_spec.specs.Sets.{listed, links}
+use Rattle.cols_spec.specs.Sets.{listed, connections}
 use Rattle.codec_table.specs.Codec.{octetsOfMsg}
 use Rattle.codec_table.specs.Named.{Message, fields}
 
@@ -12,7 +12,7 @@ pub data Sent : Type 0 where
 
 -- one message to each connection of a mask, ascending
 unfoldable pub tell : ℕ → Message → List Sent
-tell m s = map (λ q. to q s) (listed links m)
+tell m s = map (λ q. to q s) (listed connections m)
 
 -- its octets
 unfoldable pub wire : Message → List ℕ
@@ -23,11 +23,11 @@ abbrev pub two : ℕ → List ℕ
 two n = n / 256 ∷ n % 256 ∷ []
 
 -- a record: the length of what follows, version 1, connection, message
-unfoldable pub framed : List ℕ → ℕ → List ℕ
-framed m q = two (length m + 2) ++ 1 ∷ q ∷ m
+unfoldable pub record-of : List ℕ → ℕ → List ℕ
+record-of m q = two (length m + 2) ++ 1 ∷ q ∷ m
 
 unfoldable pub octets : Sent → List ℕ
-octets (to q m) = framed (wire m) q
+octets (to q m) = record-of (wire m) q
 
 -- the records one behind the other
 unfoldable pub records : List Sent → List ℕ

@@ -5,7 +5,7 @@ ghost use mathlib.Core.Path.{_≡_};
 ghost use Prim.Native.Nat.{ℕ, _+_, _-_, _≤_, _<_, min};
 ghost use lib.ListN.{length, set};
 ghost use Rattle.codec_table.specs.Limits.{message-limit};
-ghost use Rattle.out_records.specs.Records.{two, framed};
+ghost use Rattle.out_records.specs.Records.{two, record-of};
 ghost use Rattle.out_records.specs.Out.{Puts, allowed as allowedAt, guarded, each-two, told-to, told};
 use codec_table::MESSAGE_LIMIT;
 
@@ -106,7 +106,7 @@ pub fn put_ids(s: &mut [u8], at: usize, low: u16, ids: &[u16]) -> usize
 
 // How many octets the record of a message takes, to any connection: none where it may not be put.
 pub fn record_size(m: &[u8]) -> usize
-    ensures { λ r. ⌜ ((q : ℕ) → r ≡ length (guarded 0 (now (m .entry)) (framed (now (m .entry)) q))) ⌝ }
+    ensures { λ r. ⌜ ((q : ℕ) → r ≡ length (guarded 0 (now (m .entry)) (record-of (now (m .entry)) q))) ⌝ }
 {
     if allowed(0, m.len()) {
         return m.len() + 4;
@@ -116,7 +116,7 @@ pub fn record_size(m: &[u8]) -> usize
 
 // A record at the start of the room: what follows in two octets, version 1, connection, message.
 pub fn put_record(s: &mut [u8], q: u8, m: &[u8]) -> usize
-    ensures { λ r. ⌜ Puts (now (s .entry)) 0 (guarded 0 (now (m .entry)) (framed (now (m .entry)) q)) (now (s .exit)) r ⌝ }
+    ensures { λ r. ⌜ Puts (now (s .entry)) 0 (guarded 0 (now (m .entry)) (record-of (now (m .entry)) q)) (now (s .exit)) r ⌝ }
 {
     if allowed(0, m.len()) {
         let n = m.len() + 2;
@@ -137,7 +137,7 @@ fn least_of(a: usize, b: usize) -> usize
 // The record of a message of three octets, for which there is room: its seven octets are stored together.
 fn lay_three(out: &mut [u8], at: usize, q: u8, m: &[u8])
     requires { ⌜ (length (now m) ≡ 3) × (at + 7 ≤ length (now out)) ⌝ }
-    ensures { λ _. ⌜ Puts (now (out .entry)) at (framed (now (m .entry)) q) (now (out .exit)) (at + 7) ⌝ }
+    ensures { λ _. ⌜ Puts (now (out .entry)) at (record-of (now (m .entry)) q) (now (out .exit)) (at + 7) ⌝ }
 {
     out[at] = 0;
     out[at + 1] = 5;
@@ -151,7 +151,7 @@ fn lay_three(out: &mut [u8], at: usize, q: u8, m: &[u8])
 // A record into the part of the room behind a place, which may lie behind its end. A CDin, of which there may be many, has three octets.
 fn lay_record(out: &mut [u8], at: usize, q: u8, m: &[u8]) -> usize
     requires { ⌜ (at ≤ 100000) × (length (now m) ≤ message-limit) ⌝ }
-    ensures { λ r. ⌜ Puts (now (out .entry)) at (framed (now (m .entry)) q) (now (out .exit)) r ⌝ }
+    ensures { λ r. ⌜ Puts (now (out .entry)) at (record-of (now (m .entry)) q) (now (out .exit)) r ⌝ }
 {
     if m.len() == 3 {
         let end = at + 7;
@@ -165,7 +165,7 @@ fn lay_record(out: &mut [u8], at: usize, q: u8, m: &[u8]) -> usize
 }
 
 pub fn send(out: &mut [u8], at: usize, q: u8, m: &[u8]) -> usize
-    ensures { λ r. ⌜ Puts (now (out .entry)) at (guarded at (now (m .entry)) (framed (now (m .entry)) q)) (now (out .exit)) r ⌝ }
+    ensures { λ r. ⌜ Puts (now (out .entry)) at (guarded at (now (m .entry)) (record-of (now (m .entry)) q)) (now (out .exit)) r ⌝ }
 {
     if allowed(at, m.len()) {
         return lay_record(out, at, q, m);

@@ -9,7 +9,7 @@ use Rattle.cols_spec.specs.Sets.{if_then_else_, has}
 use Rattle.codec_read_fast.specs.Shortly.{few-ids, NoneRead}
 use Rattle.domain.specs.Numbers.{replyNumber}
 use Rattle.domain.specs.Tables.{Domain, grant}
-use Rattle.domain.specs.Effects.{sends, settle}
+use Rattle.domain.specs.Effects.{delivers, settle}
 use Rattle.domain.specs.Events.{loses, hears, complaint, act}
 use Rattle.domain.specs.Outcomes.{after}
 use Rattle.domain.proofs.Turning.{open-loses, open-served, open-refused}
@@ -23,10 +23,10 @@ module _ (d : Domain) (p : ℕ) (out os : List ℕ) (in-use : not (ltb 15 p || n
     (u : Understood) (listed : List ℕ) (h : (lost ≡ true → Requests 8 0 0 0 u) × (lost ≡ false → NoneRead few-ids os → Understands os u listed)) where
   -- only a message is refused
   pub long-refused : (replyNumber (u .reply) ≡ 0 → ⊥)
-      → sends (replyNumber (u .reply)) d d (complaint (replyNumber (u .reply)) p os) out ≡ after d (if lost then loses p else hears p (understood os)) out
+      → delivers (replyNumber (u .reply)) d d (complaint (replyNumber (u .reply)) p os) out ≡ after d (if lost then loses p else hears p (understood os)) out
   long-refused n = go lost refl
     where
-      go : (b : Bool) → lost ≡ b → sends (replyNumber (u .reply)) d d (complaint (replyNumber (u .reply)) p os) out ≡ after d (if b then loses p else hears p (understood os)) out
+      go : (b : Bool) → lost ≡ b → delivers (replyNumber (u .reply)) d d (complaint (replyNumber (u .reply)) p os) out ≡ after d (if b then loses p else hears p (understood os)) out
       go true e = absurd (n (h .0 e .done))
       go false e = open-refused d p out _ refl in-use (understood os) _ _ (h .1 e (none e) _ d p _ ∙ refused-asks _ d p _ os u listed n)
 

@@ -9,7 +9,7 @@ use native.Mathlib.Omega.{arith}
 use borrow.Author.Tests.{lt-ltb, le-ltb, ltb-true, ltb-false}
 use lib.Dec.{eqb, ltb}
 use lib.ListN.{length}
-use Rattle.cols_spec.specs.Sets.{if_then_else_, has, with, links}
+use Rattle.cols_spec.specs.Sets.{if_then_else_, has, with, connections}
 use Rattle.codec_table.specs.Messages.{may-go-up, is-served}
 use Rattle.codec_table.specs.Codec.{Msg, Outcome as Read, ok, refuse, sized, decode}
 use Rattle.codec_table.specs.Named.{Message, named, called, heardAs, heard}
@@ -125,7 +125,7 @@ opens-answers d p = go (ltb 15 p) refl
   where
     joins : (b : Bool) → has (d .links) p ≡ b → ltb 15 p ≡ false → Answering d (opens p)
     joins true h k = quiet d (opens p) 3 (omega arith) refl (λ room. rw (k, h) refl)
-    joins false h k = done-with d (opens p) (put-links d (with links (d .links) p)) [] (λ room. rw (k, h, le-ltb room 0 (omega arith)) refl)
+    joins false h k = done-with d (opens p) (put-links d (with connections (d .links) p)) [] (λ room. rw (k, h, le-ltb room 0 (omega arith)) refl)
 
     go : (b : Bool) → ltb 15 p ≡ b → Answering d (opens p)
     go true h = quiet d (opens p) 2 (omega arith) refl (λ room. rw h refl)

@@ -8,7 +8,7 @@ use native.Mathlib.Omega.{arith}
 use borrow.Author.Tests.{le-ltb}
 use lib.Dec.{eqb, ltb}
 use lib.ListN.{length, take, length-take}
-use Rattle.cols_spec.specs.Sets.{if_then_else_, keep, any, null, each, upto, below, member, firsts, once, has, with, links, seats}
+use Rattle.cols_spec.specs.Sets.{if_then_else_, keep, any, null, each, upto, below, member, firsts, once, has, with, connections, seats}
 use Rattle.cols_spec.specs.Places.{Place, At, Nowhere, find, found, inOrder}
 use Rattle.cols_spec.proofs.Order.{keep-le, in-order-length}
 use Rattle.codec_octets.specs.Octets.{Bytes}
@@ -28,7 +28,7 @@ use Rattle.domain.specs.declared.token.Holding.{Holding}
 use Rattle.domain.specs.declared.token.Holding.the-variants.{Free, Grabbed, Inhibited, Giving, Given}
 use Rattle.domain.specs.Cells.{kind}
 use Rattle.domain.specs.Tables.{Users, Channels, Tokens, Domain, attached, channel, hosts, state, put-links, put-channels, put-tokens, put-both, grant}
-use Rattle.domain.specs.Tokens.{Turned, fails, turns, grab, inhibit, release, grabbed-by, offered-to, answered, party}
+use Rattle.domain.specs.Tokens.{Turned, fails, turns, grab, inhibit, release, grabbed-by, offered-to, responded, party}
 use Rattle.domain.specs.Effects.{Effect, ignored, done, from, within}
 use Rattle.domain.specs.Channels.{attach, may, join-at, join-new, join, joined, leave-channels, convene, owned, manages, disband, own, attached-of, admitted-of, admit, expel}
 use Rattle.domain.specs.Passing.{turn, take-token, share-token, drop-token, offer, informed, answer, please, test}
@@ -150,7 +150,7 @@ own-short us ids say h s =
       arith,
       each-length (λ q. if null (keep (λ u. found (attached us q u)) ids) then [] else to q (say (keep (λ u. found (attached us q u)) ids)) ∷ []) 138
           (λ q. mine (null (keep (λ u. found (attached us q u)) ids)) q (keep (λ u. found (attached us q u)) ids) (keep-le (λ u. found (attached us q u)) ids))
-          (below links),
+          (below connections),
     )
   where
     mine : (b : Bool) (q : ℕ) (xs : List ℕ) → length xs ≤ length ids → length (records (if b then [] else to q (say xs) ∷ [])) ≤ 138
@@ -389,7 +389,7 @@ module _ (d : Domain) (z : Sized d) (room : ℕ) (enough : 17200 ≤ room) where
   unfolding step step-with
   never-9 (opens p) a q = go (ltb 15 p) (has (d .links) p) q
     where
-      go : (b c : Bool) → (if b then stays d 2 else if c then stays d 3 else record { reply = 0; domain = put-links d (with links (d .links) p); sent = [] }) .reply ≡ 9 → ⊥
+      go : (b c : Bool) → (if b then stays d 2 else if c then stays d 3 else record { reply = 0; domain = put-links d (with connections (d .links) p); sent = [] }) .reply ≡ 9 → ⊥
       go true c q = omega arith
       go false true q = omega arith
       go false false q = omega arith

@@ -7,7 +7,7 @@ ghost use lib.Dec.{ltb};
 ghost use Rattle.cols_spec.specs.Sets.{if_then_else_, has as hasIn};
 ghost use Rattle.codec_read_fast.specs.Shortly.{few-ids, NoneRead};
 ghost use Rattle.domain.specs.declared.Limits.{Limits};
-ghost use Rattle.domain.specs.Tables.{domain-of};
+ghost use Rattle.domain.specs.Lent.{domain-after, domain-before};
 ghost use Rattle.domain.specs.Effects.{answered};
 ghost use Rattle.domain.specs.Events.{loses, hears};
 ghost use Rattle.domain.specs.Outcomes.{after};
@@ -54,10 +54,8 @@ fn long_event(
     out: &mut [u8],
 ) -> Answer
     requires { ⌜ (not (ltb 15 p || not (hasIn (now links) p)) ≡ true) × (lost ≡ false → NoneRead few-ids (now octets)) ⌝ }
-    ensures { λ r. ⌜ ((l : Limits) → answered r (domain-of l (now (links .exit)) (now («user_ids» .exit)) (now («user_links» .exit)) (now («channel_ids» .exit)) (now («channel_kinds» .exit))
-        (now (managers .exit)) (now (admitted .exit)) (now (joined .exit)) (now («token_ids» .exit)) (now («token_states» .exit)) (now («token_values» .exit))) (now (out .exit))
-        ≡ after (domain-of l (now (links .entry)) (now («user_ids» .entry)) (now («user_links» .entry)) (now («channel_ids» .entry)) (now («channel_kinds» .entry))
-        (now (managers .entry)) (now (admitted .entry)) (now (joined .entry)) (now («token_ids» .entry)) (now («token_states» .entry)) (now («token_values» .entry))) (if lost then loses p else hears p (understood (now (octets .entry)))) (now (out .entry))) ⌝ }
+    ensures { λ r. ⌜ ((l : Limits) → answered r (domain-after l links «user_ids» «user_links» «channel_ids» «channel_kinds» managers admitted joined «token_ids» «token_states» «token_values») (now (out .exit))
+        ≡ after (domain-before l links «user_ids» «user_links» «channel_ids» «channel_kinds» managers admitted joined «token_ids» «token_states» «token_values») (if lost then loses p else hears p (understood (now (octets .entry)))) (now (out .entry))) ⌝ }
 {
     let mut listed = [0u16; 64];
     let u = hear(lost, octets, &mut listed);
@@ -103,10 +101,8 @@ pub fn lose(
     p: u8,
     out: &mut [u8],
 ) -> Answer
-    ensures { λ r. ⌜ ((l : Limits) → answered r (domain-of l (now (links .exit)) (now («user_ids» .exit)) (now («user_links» .exit)) (now («channel_ids» .exit)) (now («channel_kinds» .exit))
-        (now (managers .exit)) (now (admitted .exit)) (now (joined .exit)) (now («token_ids» .exit)) (now («token_states» .exit)) (now («token_values» .exit))) (now (out .exit))
-        ≡ after (domain-of l (now (links .entry)) (now («user_ids» .entry)) (now («user_links» .entry)) (now («channel_ids» .entry)) (now («channel_kinds» .entry))
-        (now (managers .entry)) (now (admitted .entry)) (now (joined .entry)) (now («token_ids» .entry)) (now («token_states» .entry)) (now («token_values» .entry))) (loses p) (now (out .entry))) ⌝ }
+    ensures { λ r. ⌜ ((l : Limits) → answered r (domain-after l links «user_ids» «user_links» «channel_ids» «channel_kinds» managers admitted joined «token_ids» «token_states» «token_values») (now (out .exit))
+        ≡ after (domain-before l links «user_ids» «user_links» «channel_ids» «channel_kinds» managers admitted joined «token_ids» «token_states» «token_values») (loses p) (now (out .entry))) ⌝ }
 {
     let open = *links;
     if !serve_refuse::is_open(open, p) {
@@ -153,10 +149,8 @@ pub fn message(
     octets: &[u8],
     out: &mut [u8],
 ) -> Answer
-    ensures { λ r. ⌜ answered r (domain-of limits (now (links .exit)) (now («user_ids» .exit)) (now («user_links» .exit)) (now («channel_ids» .exit)) (now («channel_kinds» .exit))
-        (now (managers .exit)) (now (admitted .exit)) (now (joined .exit)) (now («token_ids» .exit)) (now («token_states» .exit)) (now («token_values» .exit))) (now (out .exit))
-        ≡ after (domain-of limits (now (links .entry)) (now («user_ids» .entry)) (now («user_links» .entry)) (now («channel_ids» .entry)) (now («channel_kinds» .entry))
-        (now (managers .entry)) (now (admitted .entry)) (now (joined .entry)) (now («token_ids» .entry)) (now («token_states» .entry)) (now («token_values» .entry))) (hears p (understood (now (octets .entry)))) (now (out .entry)) ⌝ }
+    ensures { λ r. ⌜ answered r (domain-after limits links «user_ids» «user_links» «channel_ids» «channel_kinds» managers admitted joined «token_ids» «token_states» «token_values») (now (out .exit))
+        ≡ after (domain-before limits links «user_ids» «user_links» «channel_ids» «channel_kinds» managers admitted joined «token_ids» «token_states» «token_values») (hears p (understood (now (octets .entry)))) (now (out .entry)) ⌝ }
 {
     let open = *links;
     if !serve_refuse::is_open(open, p) {

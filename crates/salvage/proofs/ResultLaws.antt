@@ -8,7 +8,7 @@ use borrow.Author.Tests.{lt-ltb}
 use lib.ListN.{length, length-append}
 use Rattle.codec_octets.specs.Octets.{octetsOf, number, give, follow}
 use Rattle.codec_octets.proofs.OctetLaws.{number-exact}
-use Rattle.salvage.specs.Spans.{Span, kept, cut, spans, joined}
+use Rattle.salvage.specs.Spans.{Span, kept, cut, spans, all-octets}
 use Rattle.salvage.specs.Answer.{keptIn, entry, cutsFrom, output, cutList}
 use Rattle.salvage.specs.Claims.{Trace, none, next, Right, starts, entry-read, salvaged-again, result-trace, uncut-exactly, uncut-whole, never-9}
 use Rattle.salvage.proofs.SpanLaws.{spans-none}
@@ -28,8 +28,8 @@ frames-right [] r = tt
 frames-right (kept f ∷ xs) r = (r .0, frames-right xs (r .1))
 frames-right (cut os ∷ xs) r = frames-right xs (r .1)
 
-frames-joined : (xs : List Span) → joined (frames xs) ≡ keptIn xs
-unfolding frames joined keptIn
+frames-joined : (xs : List Span) → all-octets (frames xs) ≡ keptIn xs
+unfolding frames all-octets keptIn
 frames-joined [] = refl
 frames-joined (kept f ∷ xs) = ap (λ l. f ++ l) (frames-joined xs)
 frames-joined (cut os ∷ xs) = frames-joined xs
@@ -66,10 +66,10 @@ unfolding output
 result s = kept-trace (spans s) (right s)
 
 -- V4
-uncut-trace : (at : ℕ) (xs : List Span) → Right xs → cutsFrom at xs ≡ [] → Trace (joined xs)
-unfolding joined cutsFrom
+uncut-trace : (at : ℕ) (xs : List Span) → Right xs → cutsFrom at xs ≡ [] → Trace (all-octets xs)
+unfolding all-octets cutsFrom
 uncut-trace at [] r e = none
-uncut-trace at (kept f ∷ xs) r e = next f (joined xs) (r .0) (uncut-trace (at + length f) xs (r .1) e)
+uncut-trace at (kept f ∷ xs) r e = next f (all-octets xs) (r .0) (uncut-trace (at + length f) xs (r .1) e)
 uncut-trace at (cut os ∷ xs) r e =
     absurd (omega (arith, ap length e, length-append (entry at (length os)) (cutsFrom (at + length os) xs), entry-length at (length os)))
 
@@ -104,16 +104,16 @@ cuts-length at (kept f ∷ xs) = cuts-length (at + length f) xs
 cuts-length at (cut os ∷ xs) =
     omega (arith, length-append (entry at (length os)) (cutsFrom (at + length os) xs), entry-length at (length os), cuts-length (at + length os) xs)
 
-kept-length : (xs : List Span) → length (keptIn xs) ≤ length (joined xs)
-unfolding keptIn joined
+kept-length : (xs : List Span) → length (keptIn xs) ≤ length (all-octets xs)
+unfolding keptIn all-octets
 kept-length [] = omega arith
-kept-length (kept f ∷ xs) = omega (arith, length-append f (keptIn xs), length-append f (joined xs), kept-length xs)
-kept-length (cut os ∷ xs) = omega (arith, length-append os (joined xs), kept-length xs)
+kept-length (kept f ∷ xs) = omega (arith, length-append f (keptIn xs), length-append f (all-octets xs), kept-length xs)
+kept-length (cut os ∷ xs) = omega (arith, length-append os (all-octets xs), kept-length xs)
 
-count-most : (xs : List Span) → Right xs → 11 * count xs ≤ length (joined xs) + 10
-unfolding count joined
+count-most : (xs : List Span) → Right xs → 11 * count xs ≤ length (all-octets xs) + 10
+unfolding count all-octets
 count-most [] r = omega arith
-count-most (kept f ∷ xs) r = omega (arith, length-append f (joined xs), count-most xs (r .1))
+count-most (kept f ∷ xs) r = omega (arith, length-append f (all-octets xs), count-most xs (r .1))
 count-most (cut a ∷ []) r = omega (arith, length-append a [], r .0 .some)
 count-most (cut a ∷ cut b ∷ xs) r = absurd (cut-cut a b xs r)
 count-most (cut a ∷ kept f ∷ []) r = omega (arith, length-append a (f ++ []), r .0 .some)
@@ -121,9 +121,9 @@ count-most (cut a ∷ kept f ∷ cut b ∷ xs) r = absurd (cut-frame-cut a f b x
 count-most (cut a ∷ kept f ∷ kept g ∷ xs) r =
     omega (
       arith,
-      length-append a (f ++ (g ++ joined xs)),
-      length-append f (g ++ joined xs),
-      length-append g (joined xs),
+      length-append a (f ++ (g ++ all-octets xs)),
+      length-append f (g ++ all-octets xs),
+      length-append g (all-octets xs),
       r .0 .some,
       frame-least (r .1 .0),
       frame-least (r .1 .1 .0),
@@ -140,21 +140,21 @@ never s out list h l =
     (omega (arith, cuts-length 0 (spans s), count-most (spans s) (right s))))
 
 -- ---- the list of the cuts
-cuts-behind : (at : ℕ) (before after : List Span) → cutsFrom at (before ++ after) ≡ cutsFrom at before ++ cutsFrom (at + length (joined before)) after
-unfolding cutsFrom joined
+cuts-behind : (at : ℕ) (before after : List Span) → cutsFrom at (before ++ after) ≡ cutsFrom at before ++ cutsFrom (at + length (all-octets before)) after
+unfolding cutsFrom all-octets
 cuts-behind at [] after = ap (λ n. cutsFrom n after) (sym (add-zero at))
 cuts-behind at (kept f ∷ xs) after =
     cuts-behind (at + length f) xs after
-    ∙ ap (λ n. cutsFrom (at + length f) xs ++ cutsFrom n after) (add-assoc at (length f) (length (joined xs)) ∙ ap (λ n. at + n) (sym (length-append f (joined xs))))
+    ∙ ap (λ n. cutsFrom (at + length f) xs ++ cutsFrom n after) (add-assoc at (length f) (length (all-octets xs)) ∙ ap (λ n. at + n) (sym (length-append f (all-octets xs))))
 cuts-behind at (cut os ∷ xs) after =
     ap (λ l. entry at (length os) ++ l)
     (cuts-behind (at + length os) xs after
-    ∙ ap (λ n. cutsFrom (at + length os) xs ++ cutsFrom n after) (add-assoc at (length os) (length (joined xs)) ∙ ap (λ n. at + n) (sym (length-append os (joined xs)))))
-    ∙ sym (append-assoc (entry at (length os)) (cutsFrom (at + length os) xs) (cutsFrom (at + length (os ++ joined xs)) after))
+    ∙ ap (λ n. cutsFrom (at + length os) xs ++ cutsFrom n after) (add-assoc at (length os) (length (all-octets xs)) ∙ ap (λ n. at + n) (sym (length-append os (all-octets xs)))))
+    ∙ sym (append-assoc (entry at (length os)) (cutsFrom (at + length os) xs) (cutsFrom (at + length (os ++ all-octets xs)) after))
 
 pub start : starts
 unfolding cutsFrom
-start before after os = cuts-behind 0 before (cut os ∷ after) ∙ ap (λ n. cutsFrom 0 before ++ cutsFrom n (cut os ∷ after)) (zero-add (length (joined before)))
+start before after os = cuts-behind 0 before (cut os ∷ after) ∙ ap (λ n. cutsFrom 0 before ++ cutsFrom n (cut os ∷ after)) (zero-add (length (all-octets before)))
 
 pub entries : entry-read
 unfolding entry

@@ -10,7 +10,7 @@ use lib.ListN.{length, take, drop, length-append, length-drop, take-append-drop}
 use lib.Seq.{length-take-le, take-at, drop-at}
 use Rattle.trace_frames.specs.Good.{goodSize}
 use Rattle.trace_frames.proofs.Good.{within, least, alone}
-use Rattle.salvage.specs.Spans.{begins, resumes, until, Span, kept, cut, spans, joined}
+use Rattle.salvage.specs.Spans.{begins, resumes, until, Span, kept, cut, spans, all-octets}
 use Rattle.salvage.specs.Claims.{IsFrame, IsCut, Right, all-there, cuts-apart, two-between, kept-good, cut-right, only-these}
 use Rattle.salvage.proofs.SpanLaws.{none-or-some, begins-none, resumes-none, resumes-next, until-here, until-past, until-most, until-some, spans-none, spans-kept, spans-cut}
 
@@ -92,10 +92,10 @@ cut-is s h z =
 
 -- ---- V1, V2: all spans, by the number of octets
 abbrev Sound : List ℕ → Type 0
-Sound s = (joined (spans s) ≡ s) × Right (spans s)
+Sound s = (all-octets (spans s) ≡ s) × Right (spans s)
 
 sound-kept : (s : List ℕ) → 0 < goodSize s → Sound (drop (goodSize s) s) → Sound s
-unfolding joined
+unfolding all-octets
 sound-kept s h i =
     let n = goodSize s in
     let l : length (take n s) ≡ n = length-take-le n s (within s) in
@@ -103,14 +103,14 @@ sound-kept s h i =
     (ap (λ r. take n s ++ r) (i .0) ∙ take-append-drop n s, (record { some = omega arith; good = ap goodSize (sym (append-nil (take n s))) ∙ alone s [] h ∙ sym l }, i .1))
 
 sound-cut : (s : List ℕ) → 0 < length s → goodSize s ≡ 0 → Sound (drop (until s) s) → Sound s
-unfolding joined
+unfolding all-octets
 sound-cut s h z i =
     let n = until s in
     rw (spans-cut s h z)
     (ap (λ r. take n s ++ r) (i .0) ∙ take-append-drop n s, (rw (i .0) (cut-is s h z), i .1))
 
 sound : (k : ℕ) (s : List ℕ) → length s ≤ k → Sound s
-unfolding joined
+unfolding all-octets
 sound zero [] h = rw (spans-none [] refl) (refl, tt)
 sound zero (o ∷ s) h = absurd (omega arith)
 sound (suc k) [] h = rw (spans-none [] refl) (refl, tt)
@@ -143,21 +143,21 @@ cuts-right s before after os e = from s before (cut os ∷ after) e .0
 
 -- no two cuts touch: behind a cut is the end or a good frame
 pub cut-cut : (a b : List ℕ) (xs : List Span) → Right (cut a ∷ cut b ∷ xs) → ⊥
-unfolding joined
+unfolding all-octets
 cut-cut a b xs r =
     ⊎-elim
-    (λ e. omega (arith, r .1 .0 .some, length-append b (joined xs), ap length e))
-    (λ e. apart (sym e ∙ resumes-none (b ++ joined xs) (unbegun (b ++ joined xs) (r .1 .0 .none-begins))))
+    (λ e. omega (arith, r .1 .0 .some, length-append b (all-octets xs), ap length e))
+    (λ e. apart (sym e ∙ resumes-none (b ++ all-octets xs) (unbegun (b ++ all-octets xs) (r .1 .0 .none-begins))))
     (r .0 .ends)
 
 -- nor does one frame stand alone between two: where reading resumes, another frame or the end follows
 pub cut-frame-cut : (a f b : List ℕ) (xs : List Span) → Right (cut a ∷ kept f ∷ cut b ∷ xs) → ⊥
-unfolding joined
+unfolding all-octets
 cut-frame-cut a f b xs r =
-    let rest = b ++ joined xs in
+    let rest = b ++ all-octets xs in
     let n : goodSize (f ++ rest) ≡ length f = frame-size (r .1 .0) rest in
     let l : length (f ++ rest) ≡ length f + length rest = length-append f rest in
-    let m : length rest ≡ length b + length (joined xs) = length-append b (joined xs) in
+    let m : length rest ≡ length b + length (all-octets xs) = length-append b (all-octets xs) in
     let o : goodSize (drop (goodSize (f ++ rest)) (f ++ rest)) ≡ 0 = ap (λ k. goodSize (drop k (f ++ rest))) n ∙ ap goodSize (drop-at f rest (length f) refl) ∙ unbegun rest (r .1 .1 .0 .none-begins) in
     ⊎-elim
     (λ e. omega (arith, r .1 .0 .some, ap length e))
@@ -183,11 +183,11 @@ spans-cut-is os rest i =
     ∙ ap (λ l. cut l ∷ spans (drop (length os) s)) (take-at os rest (length os) refl)
     ∙ ap (λ l. cut os ∷ spans l) (drop-at os rest (length os) refl)
 
-pub only : (xs : List Span) → Right xs → spans (joined xs) ≡ xs
-unfolding joined
+pub only : (xs : List Span) → Right xs → spans (all-octets xs) ≡ xs
+unfolding all-octets
 only [] r = spans-none [] refl
-only (kept f ∷ xs) r = spans-frame (r .0) (joined xs) ∙ ap (λ l. kept f ∷ l) (only xs (r .1))
-only (cut os ∷ xs) r = spans-cut-is os (joined xs) (r .0) ∙ ap (λ l. cut os ∷ l) (only xs (r .1))
+only (kept f ∷ xs) r = spans-frame (r .0) (all-octets xs) ∙ ap (λ l. kept f ∷ l) (only xs (r .1))
+only (cut os ∷ xs) r = spans-cut-is os (all-octets xs) (r .0) ∙ ap (λ l. cut os ∷ l) (only xs (r .1))
 
 pub these : only-these
 these s xs = (λ r. sym (only xs (r .0)) ∙ ap spans (r .1), λ e. rw e (right s, there s))

@@ -7,7 +7,7 @@ use mathlib.Core.List.{List, [], _∷_, _++_}
 use lib.ListN.{length}
 use Rattle.trace_frames.specs.Good.{goodSize}
 use Rattle.codec_octets.specs.Octets.{Reader, got, number, give, _>>=_}
-use Rattle.salvage.specs.Spans.{begins, resumes, Span, kept, cut, spans, joined}
+use Rattle.salvage.specs.Spans.{begins, resumes, Span, kept, cut, spans, all-octets}
 use Rattle.salvage.specs.Answer.{entry, cutsFrom, output, cutList, salvaged}
 
 -- octets that are one good frame
@@ -32,11 +32,11 @@ pub record IsCut (os rest : List ℕ) : Type 0 where
 abbrev pub Right : List Span → Type 0
 Right [] = Unit {0}
 Right (kept f ∷ xs) = IsFrame f × Right xs
-Right (cut os ∷ xs) = IsCut os (joined xs) × Right xs
+Right (cut os ∷ xs) = IsCut os (all-octets xs) × Right xs
 
 -- V1. "Kept and cut spans in order are the input"
 abbrev pub all-there : Type 0
-all-there = (s : List ℕ) → joined (spans s) ≡ s
+all-there = (s : List ℕ) → all-octets (spans s) ≡ s
 
 -- no two cuts touch, and between two cuts are at least two frames
 abbrev pub cuts-apart : Type 0
@@ -50,16 +50,16 @@ abbrev pub kept-good : Type 0
 kept-good = (s : List ℕ) (before after : List Span) (f : List ℕ) → spans s ≡ before ++ kept f ∷ after → IsFrame f
 
 abbrev pub cut-right : Type 0
-cut-right = (s : List ℕ) (before after : List Span) (os : List ℕ) → spans s ≡ before ++ cut os ∷ after → IsCut os (joined after)
+cut-right = (s : List ℕ) (before after : List Span) (os : List ℕ) → spans s ≡ before ++ cut os ∷ after → IsCut os (all-octets after)
 
 -- and no other spans are so
 abbrev pub only-these : Type 0
-only-these = (s : List ℕ) (xs : List Span) → (Right xs × (joined xs ≡ s)) ↔ (xs ≡ spans s)
+only-these = (s : List ℕ) (xs : List Span) → (Right xs × (all-octets xs ≡ s)) ↔ (xs ≡ spans s)
 
 -- the list says where each cut starts, behind all octets before it, and how long it is
 abbrev pub starts : Type 0
 starts = (before after : List Span) (os : List ℕ)
-    → cutsFrom 0 (before ++ cut os ∷ after) ≡ cutsFrom 0 before ++ (entry (length (joined before)) (length os) ++ cutsFrom (length (joined before) + length os) after)
+    → cutsFrom 0 (before ++ cut os ∷ after) ≡ cutsFrom 0 before ++ (entry (length (all-octets before)) (length os) ++ cutsFrom (length (all-octets before) + length os) after)
 
 -- an entry is read back as its start and length; in a trace of fewer than 2 ^ 64 octets both are below 2 ^ 64
 abbrev pub readEntry : Reader (ℕ × ℕ)

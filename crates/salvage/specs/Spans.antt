@@ -43,6 +43,6 @@ unfoldable pub spans : List ℕ → List Span
 spans s = spansIn (length s) s
 
 -- the octets of all spans in their order
-unfoldable pub joined : List Span → List ℕ
-joined [] = []
-joined (x ∷ xs) = octetsIn x ++ joined xs
+unfoldable pub all-octets : List Span → List ℕ
+all-octets [] = []
+all-octets (x ∷ xs) = octetsIn x ++ all-octets xs

@@ -11,7 +11,7 @@ use Rattle.trace_frames.specs.Good.{longest}
 use Rattle.salvage_window.specs.declared.Turn.{Turn}
 use Rattle.salvage_window.specs.Claims.{turn-within}
 use Rattle.salvage_window.proofs.Turns.{keeps-most}
-use Rattle.salvage_window.specs.Windows.{decided, keeps, stops, skips, expected, passed, turned}
+use Rattle.salvage_window.specs.Windows.{decided, keeps, stops, skips, expected, passed, turn-of}
 
 abbrev made : ℕ → Bool → Bool → Turn
 made octets kept cutting = record { octets = octets; kept = kept; cutting = cutting }
@@ -46,18 +46,18 @@ module _ (ended : Bool) (w : List ℕ) where
     unfolding expected
     some-kept h = simp (sym e, lt-ltb 0 n (omega arith), ne-eqb n 0 h)
 
-  pub in-cut : (cutting : Bool) → cutting ≡ true → passed ended w ≡ turned ended w cutting
-  unfolding turned
+  pub in-cut : (cutting : Bool) → cutting ≡ true → passed ended w ≡ turn-of ended w cutting
+  unfolding turn-of
   in-cut cutting e = simp e
 
-  pub expecting : (cutting : Bool) → cutting ≡ false → expected ended w ≡ turned ended w cutting
-  unfolding turned
+  pub expecting : (cutting : Bool) → cutting ≡ false → expected ended w ≡ turn-of ended w cutting
+  unfolding turn-of
   expecting cutting e = simp e
 
 pub within : turn-within
-unfolding turned expected passed
+unfolding turn-of expected passed
 within ended w true = skips-most ended w
 within ended w false = keeps-most ended w
 
-pub inside : (ended : Bool) (w : List ℕ) (cutting : Bool) (t : Turn) → t ≡ turned ended w cutting → t .octets ≤ length w
+pub inside : (ended : Bool) (w : List ℕ) (cutting : Bool) (t : Turn) → t ≡ turn-of ended w cutting → t .octets ≤ length w
 inside ended w cutting t e = rw e (within ended w cutting)

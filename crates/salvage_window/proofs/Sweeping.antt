@@ -16,7 +16,7 @@ use Rattle.trace_frames.proofs.Faults.{nothing}
 use Rattle.salvage.specs.Spans.{until, cut, spans}
 use Rattle.salvage.specs.Answer.{keptIn, entry, cutsFrom, output, cutList}
 use Rattle.salvage.proofs.SpanLaws.{none-or-some, until-here, until-most, until-some, spans-none, spans-cut}
-use Rattle.salvage_window.specs.Windows.{decided, keeps, skips, opens, expected, passed, turned}
+use Rattle.salvage_window.specs.Windows.{decided, keeps, skips, opens, expected, passed, turn-of}
 use Rattle.salvage_window.specs.Claims.{Place, after, Sweeps, start, next, Enough, left}
 use Rattle.salvage_window.specs.Claims.{sweep-salvages, no-idle, sweep-ends, fault-told}
 use Rattle.salvage_window.proofs.Stays.{low-drop, low-front, size-decided, fault-decided, resumes-decided}
@@ -152,8 +152,8 @@ kept-out (suc n) out w = simp (lt-ltb 0 (suc n) (omega arith))
 module _ (s : List ℕ) (low : octets-below-256 s) (w more : List ℕ) (ended : Bool) (last : ended ≡ true → more ≡ []) where
   step : (at : ℕ) (cutting : Bool) (from : ℕ) (out list : List ℕ) → drop at s ≡ w ++ more
       → Holds s (record { at = at; cutting = cutting; from = from; out = out; list = list })
-      → Holds s (after (record { at = at; cutting = cutting; from = from; out = out; list = list }) w (turned ended w cutting))
-  unfolding turned expected passed
+      → Holds s (after (record { at = at; cutting = cutting; from = from; out = out; list = list }) w (turn-of ended w cutting))
+  unfolding turn-of expected passed
   step at false from out list stands h = go (opens ended w) refl
     where
       f : From s (at + keeps ended w) (cond (ltb 0 (keeps ended w)) (out ++ take (keeps ended w) w) out) list
@@ -199,7 +199,7 @@ must-open : (ended : Bool) (w : List ℕ) → Enough ended w → 0 < length w �
 must-open ended w d h z = simp (eq-eqb (keeps ended w) 0 z, lt-ltb 0 (length w) h, one-of-two ended (length w) d)
 
 pub idle : no-idle
-unfolding turned expected passed
+unfolding turn-of expected passed
 idle ended w true d h = ⊎-elim (λ z. inr (rw z (ap not d))) inl (none-or-some (skips ended w))
 idle ended w false d h =
     ⊎-elim
@@ -221,8 +221,8 @@ module _ (s : List ℕ) (low : octets-below-256 s) (w more : List ℕ) (ended : 
   less : (at : ℕ) (cutting : Bool) (from : ℕ) (out list : List ℕ) → drop at s ≡ w ++ more
       → Holds s (record { at = at; cutting = cutting; from = from; out = out; list = list })
       → (at < length s) ⊎ (cutting ≡ true)
-      → left s (after (record { at = at; cutting = cutting; from = from; out = out; list = list }) w (turned ended w cutting)) < left s (record { at = at; cutting = cutting; from = from; out = out; list = list })
-  unfolding turned expected passed
+      → left s (after (record { at = at; cutting = cutting; from = from; out = out; list = list }) w (turn-of ended w cutting)) < left s (record { at = at; cutting = cutting; from = from; out = out; list = list })
+  unfolding turn-of expected passed
   less at false from out list stands h m = ⊎-elim none some (none-or-some (keeps ended w))
     where
       more-left : at < length s
@@ -276,7 +276,7 @@ ends s p w more ended low sw win d m =
 
 -- ---- the fault that is told
 pub told : fault-told
-unfolding turned expected
+unfolding turn-of expected
 told s p w more ended low win c e =
     let o = opens-says ended w (rw c at e) in
     let g : goodSize w ≡ 0 = none-kept ended w (o .0) (o .2) in

@@ -12,11 +12,11 @@ use Rattle.trace_frames.specs.declared.fault.Fault.the-variants.{Nothing}
 use Rattle.trace_frames.specs.Fault.{faultOf}
 use Rattle.salvage.specs.Answer.{entry, output, cutList}
 use Rattle.salvage_window.specs.declared.Turn.{Turn}
-use Rattle.salvage_window.specs.Windows.{decided, turned}
+use Rattle.salvage_window.specs.Windows.{decided, turn-of}
 
 -- a turn takes no octet that is not in the window
 abbrev pub turn-within : Type 0
-turn-within = (ended : Bool) (w : List ℕ) (cutting : Bool) → turned ended w cutting .octets ≤ length w
+turn-within = (ended : Bool) (w : List ℕ) (cutting : Bool) → turn-of ended w cutting .octets ≤ length w
 
 -- how far a trace is salvaged: the octets passed, whether a cut is open and where it starts, the octets kept and the list of the cuts so far
 pub record Place : Type 0 where
@@ -49,7 +49,7 @@ pub record Window (s : List ℕ) (p : Place) (w more : List ℕ) (ended : Bool) 
 -- any number of turns, over any windows
 pub data Sweeps (s : List ℕ) : Place → Type 0 where
   start : Sweeps s begun
-  next : (p : Place) (w more : List ℕ) (ended : Bool) → Sweeps s p → Window s p w more ended → Sweeps s (after p w (turned ended w (p .cutting)))
+  next : (p : Place) (w more : List ℕ) (ended : Bool) → Sweeps s p → Window s p w more ended → Sweeps s (after p w (turn-of ended w (p .cutting)))
 
 -- a sweep that has come to the end has written what `salvage` writes, whatever the windows were
 abbrev pub sweep-salvages : Type 0
@@ -63,7 +63,7 @@ Enough ended w = decided ended (2 * longest) (length w) ≡ true
 -- no turn over such a window is idle, where an octet or an open cut is left: it passes an octet, or opens a cut, or ends one
 abbrev pub no-idle : Type 0
 no-idle = (ended : Bool) (w : List ℕ) (cutting : Bool) → Enough ended w → (0 < length w) ⊎ (cutting ≡ true)
-    → (0 < turned ended w cutting .octets) ⊎ (turned ended w cutting .cutting ≡ not cutting)
+    → (0 < turn-of ended w cutting .octets) ⊎ (turn-of ended w cutting .cutting ≡ not cutting)
 
 -- what is left to do: three turns for an octet at most, as an octet may end a cut and open the next
 abbrev pub left : List ℕ → Place → ℕ
@@ -74,11 +74,11 @@ abbrev pub sweep-ends : Type 0
 sweep-ends = (s : List ℕ) (p : Place) (w more : List ℕ) (ended : Bool) → octets-below-256 s → Sweeps s p → Window s p w more ended
     → Enough ended w
     → (p .at < length s) ⊎ (p .cutting ≡ true)
-    → left s (after p w (turned ended w (p .cutting))) < left s p
+    → left s (after p w (turn-of ended w (p .cutting))) < left s p
 
 -- where a cut opens, the fault at the front of the window is a fault, and that of all the trace from there on
 abbrev pub fault-told : Type 0
 fault-told = (s : List ℕ) (p : Place) (w more : List ℕ) (ended : Bool) → octets-below-256 s → Window s p w more ended
     → p .cutting ≡ false
-    → turned ended w (p .cutting) .cutting ≡ true
+    → turn-of ended w (p .cutting) .cutting ≡ true
     → (faultOf w ≡ faultOf (drop (p .at) s)) × (faultOf w ≢ Nothing)

@@ -52,6 +52,6 @@ passed ended w =
     }
 
 -- a turn over the window w
-unfoldable pub turned : Bool → List ℕ → Bool → Turn
-turned ended w true = passed ended w
-turned ended w false = expected ended w
+unfoldable pub turn-of : Bool → List ℕ → Bool → Turn
+turn-of ended w true = passed ended w
+turn-of ended w false = expected ended w

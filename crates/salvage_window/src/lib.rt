@@ -1,7 +1,7 @@
 // Salvages a torn trace window by window: what is decided at a place rests on no more than two frames.
 ghost use mathlib.Core.Path.{_≡_};
 ghost use Prim.Native.Nat.{_+_, _-_};
-ghost use Rattle.salvage_window.specs.Windows.{decided as decidedBy, sure as sureSize, keeps as keepsAll, stops as stopsAt, skips as skipsAll, expected, passed, turned};
+ghost use Rattle.salvage_window.specs.Windows.{decided as decidedBy, sure as sureSize, keeps as keepsAll, stops as stopsAt, skips as skipsAll, expected, passed, turn-of};
 ghost use Rattle.salvage_window.specs.Stands.{capped, stood};
 
 // The octets of the longest frame, and of two.
@@ -116,7 +116,7 @@ fn pass(w: &[u8], ended: bool) -> Turn
 
 // A turn over a window of a trace. `ended` says that nothing follows the window, `cutting` that a cut is open where it begins.
 pub fn turn_over(window: &[u8], ended: bool, cutting: bool) -> Turn
-    ensures { λ r. ⌜ r ≡ turned ended (now (window .entry)) cutting ⌝ }
+    ensures { λ r. ⌜ r ≡ turn-of ended (now (window .entry)) cutting ⌝ }
 {
     if cutting {
         return pass(window, ended);

@@ -8,7 +8,7 @@ use native.Mathlib.Omega.{arith}
 use borrow.Author.Tests.{lt-ltb, le-ltb, eq-eqb, ne-eqb}
 use lib.Dec.{eqb}
 use lib.ListN.{length, getD, set}
-use Rattle.cols_spec.specs.Sets.{if_then_else_, with, only, links}
+use Rattle.cols_spec.specs.Sets.{if_then_else_, with, only, connections}
 use Rattle.cols_spec.specs.Places.{Place, At, Nowhere, find}
 use Rattle.codec_table.specs.Named.{Message, AUcf, CJcf, successful, no-such-channel, too-many-channels, too-many-users}
 use Rattle.out_records.specs.Records.{Sent, to}
@@ -17,7 +17,7 @@ use Rattle.domain.specs.declared.channel.Kind.the-variants.{Static, User, Priva
 use Rattle.domain.specs.declared.channel.Channel.{Channel}
 use Rattle.domain.specs.Cells.{no-channel, kind, channel-of, with-marks}
 use Rattle.domain.specs.Tables.{Users, Channels, attached, add-user, channel, add-channel, set-channel}
-use Rattle.domain.specs.Effects.{Effect, ignored, done, Settled, settled, sends, settle, from}
+use Rattle.domain.specs.Effects.{Effect, ignored, done, Settled, settled, delivers, settle, from}
 use Rattle.domain.specs.Channels.{attach, may, join-at, join-new, join}
 use Rattle.serve_reply.proofs.Sending.{Told, did-nothing, did-refuse, did}
 use Rattle.serve_reply.proofs.Initiators.{from-at, from-nobody}
@@ -60,21 +60,21 @@ module _ (cs : Channels) (p u c i j : ℕ) (ch : Channel) (k : Kind) (r : ℕ) (
   join-denied h e = did-nothing _ _ e cs ∙ ap (λ (q : Effect Channels). settle cs q out) (sym (join-no cs p u c j r h) ∙ asked)
 
   module _ (q : r ≡ 0) (e : Told p (CJcf successful u c (some c)) n l out o) where
-    joins : done (set-channel cs j (with-marks ch (with links (ch .marks) p))) (to p (CJcf successful u c (some c)) ∷ [])
+    joins : done (set-channel cs j (with-marks ch (with connections (ch .marks) p))) (to p (CJcf successful u c (some c)) ∷ [])
         ≡ join-at cs p u c j (may (kind (channel cs j)) c u i)
     unfolding join-at channel
     joins = rw x refl ∙ rw q at asked
 
     pub join-refused : eqb n 9 ≡ true → settled n l cs o ≡ settle cs (join-at cs p u c j (may (kind (channel cs j)) c u i)) out
     join-refused h =
-        did-refuse _ _ e cs (set-channel cs j (with-marks ch (with links (ch .marks) p))) h ∙ ap (λ (q : Effect Channels). settle cs q out) joins
+        did-refuse _ _ e cs (set-channel cs j (with-marks ch (with connections (ch .marks) p))) h ∙ ap (λ (q : Effect Channels). settle cs q out) joins
 
-    pub join-done : eqb n 9 ≡ false → (m : ℕ) (cs' : Channels) → m ≡ with links (ch .marks) p
+    pub join-done : eqb n 9 ≡ false → (m : ℕ) (cs' : Channels) → m ≡ with connections (ch .marks) p
         → cs' ≡ set-channel cs j (record { role = ch .role; chair = ch .chair; guests = ch .guests; marks = m })
         → settled n l cs' o ≡ settle cs (join-at cs p u c j (may (kind (channel cs j)) c u i)) out
     unfolding with-marks
     join-done h m cs' v w =
-        did _ _ e cs cs' (set-channel cs j (with-marks ch (with links (ch .marks) p))) (w ∙ ap (λ (a : ℕ). set-channel cs j (with-marks ch a)) v) h
+        did _ _ e cs cs' (set-channel cs j (with-marks ch (with connections (ch .marks) p))) (w ∙ ap (λ (a : ℕ). set-channel cs j (with-marks ch a)) v) h
         ∙ ap (λ (q : Effect Channels). settle cs q out) joins
 
 -- ---- CJrq for a channel not in use
@@ -89,7 +89,7 @@ module _ (new : ℕ) (full : Bool) (cs : Channels) (p u c : ℕ) where
     new-full h f e = rw (le-ltb 1000 c h, f) (did-nothing _ _ e cs)
 
   module _ (h : c ≤ 1000) (f : full ≡ false) (out : List ℕ) (s : Settled Channels) (k : Kind) (id : ℕ)
-      (e : s ≡ settle cs (done (add-channel cs id (channel-of k (only links p))) (to p (CJcf successful u c (some id)) ∷ [])) out) where
+      (e : s ≡ settle cs (done (add-channel cs id (channel-of k (only connections p))) (to p (CJcf successful u c (some id)) ∷ [])) out) where
     pub new-assigned : c ≡ 0 → k ≡ Assigned → id ≡ new → s ≡ settle cs (join-new new full cs p u c) out
     unfolding join-new
     new-assigned z x y = rw (le-ltb 1000 c h, f, eq-eqb c 0 z, ← x, ← y) e

@@ -10,15 +10,15 @@ use borrow.Author.Tests.{eq-eqb, ne-eqb}
 use lib.Dec.{eqb}
 use lib.ListN.{length, getD, take, drop, drop-of-length-le}
 use lib.Seq.{drop-cons}
-use Rattle.cols_spec.specs.Sets.{if_then_else_, any, member, has, without, links}
+use Rattle.cols_spec.specs.Sets.{if_then_else_, any, member, has, without, connections}
 use Rattle.cols_spec.specs.Places.{Place, At, Nowhere, find, load}
 use Rattle.cols_spec.proofs.Marks.{has-none}
 use Rattle.domain.specs.declared.channel.Channel.{Channel}
 use Rattle.domain.specs.Cells.{no-channel, kind, with-marks}
-use Rattle.domain.specs.Tables.{Channels, sweep-channels, lapses, marked}
+use Rattle.domain.specs.Tables.{Channels, sweep-channels, lapses, narrowed}
 use Rattle.domain.specs.Effects.{settled, settle}
 use Rattle.domain.specs.Channels.{joined, left, leave-channels}
-use Rattle.domain.proofs.Effects.{sends-none}
+use Rattle.domain.proofs.Effects.{delivers-none}
 
 -- ---- had p joined
 module _ (cs : Channels) (p c : ℕ) where
@@ -61,9 +61,9 @@ module _ (p : ℕ) (listed : List ℕ) (c : ℕ) (at : Channel) where
   left-other e = rw e refl
 
   -- where the code found the channel ch, without p it has the marks m and ends or not
-  module _ (e : member c listed ≡ true) (ch : Channel) (x : ch ≡ at) (m : ℕ) (y : m ≡ without links (ch .marks) p) (r : Bool) (z : r ≡ (lapses (kind ch) && eqb m 0)) where
+  module _ (e : member c listed ≡ true) (ch : Channel) (x : ch ≡ at) (m : ℕ) (y : m ≡ without connections (ch .marks) p) (r : Bool) (z : r ≡ (lapses (kind ch) && eqb m 0)) where
     goes : left p listed c at ≡ (if r then none else some (with-marks ch m))
-    unfolding left marked
+    unfolding left narrowed
     goes = rw (e, ← x, ← y, ← z) refl
 
     pub left-ends : r ≡ true → left p listed c at ≡ none
@@ -77,7 +77,7 @@ module _ (p : ℕ) (listed : List ℕ) (c : ℕ) (at : Channel) where
 module _ (cs : Channels) (p : ℕ) (listed short : List ℕ) (out : List ℕ) (same : short ≡ listed) where
   pub leave-done : true ≡ any (joined cs p) short → (cs' : Channels) → cs' ≡ sweep-channels (left p short) cs → settled 0 0 cs' out ≡ settle cs (leave-channels cs p listed) out
   unfolding leave-channels settle
-  leave-done h cs' e = rw (← same, ← h, e) (sends-none 0 cs (sweep-channels (left p short) cs) out)
+  leave-done h cs' e = rw (← same, ← h, e) (delivers-none 0 cs (sweep-channels (left p short) cs) out)
 
   pub leave-ignored : false ≡ any (joined cs p) short → settled 1 0 cs out ≡ settle cs (leave-channels cs p listed) out
   unfolding leave-channels settle

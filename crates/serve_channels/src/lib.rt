@@ -7,11 +7,12 @@ ghost use Prim.Native.Nat.{ℕ, _<_};
 ghost use lib.Dec.{eqb};
 ghost use lib.ListN.{take, length};
 ghost use Rattle.codec_table.specs.Named.{CJcf, successful};
-ghost use Rattle.cols_spec.specs.Sets.{any, only, links as allLinks};
+ghost use Rattle.cols_spec.specs.Sets.{any, only, connections as allLinks};
 ghost use Rattle.cols_spec.specs.Swept.{Turns, anywhere};
 ghost use Rattle.out_records.specs.Records.{to};
 ghost use Rattle.domain.specs.Cells.{no-channel, kind, channel-of};
-ghost use Rattle.domain.specs.Tables.{Users, Channels, users-of, channels-of, channel-cells, channel, add-channel, sweep-channels, lapses, at-limit, grant};
+ghost use Rattle.domain.specs.Tables.{Users, Channels, channel-cells, channel, add-channel, sweep-channels, lapses, at-limit, grant};
+ghost use Rattle.domain.specs.Lent.{channels-after, channels-after-with, channels-before, channels-before-with, users-after, users-before};
 ghost use Rattle.domain.specs.Effects.{done, settle, answered};
 ghost use Rattle.domain.specs.Channels.{attach as attachOf, join as joinOf, join-at, join-new, may, joined as joinedIn, left, leave-channels as leaveOf};
 use domain::answer::Answer;
@@ -35,18 +36,10 @@ pub fn attach(
     p: u8,
     out: &mut [u8],
 ) -> Answer
-    ensures { λ r. ⌜ answered {A = Users × Channels} r (
-      users-of (now («user_ids» .exit)) (now («user_links» .exit)),
-      channels-of (now («channel_ids» .exit)) (now («channel_kinds» .exit)) (now (managers .exit)) (now (admitted .exit)) (now (joined .exit)),
-    ) (now (out .exit))
-        ≡ settle (
-          users-of (now («user_ids» .entry)) (now («user_links» .entry)),
-          channels-of (now («channel_ids» .entry)) (now («channel_kinds» .entry)) (now (managers .entry)) (now (admitted .entry)) (now (joined .entry)),
-        )
-        (attachOf (grant (channels-of (now («channel_ids» .entry)) (now («channel_kinds» .entry)) (now (managers .entry)) (now (admitted .entry)) (now (joined .entry))))
-        (at-limit userlimit (now («user_ids» .entry))) (at-limit limit (now («channel_ids» .entry))) (users-of (now («user_ids» .entry)) (now («user_links» .entry)))
-        (channels-of (now («channel_ids» .entry)) (now («channel_kinds» .entry)) (now (managers .entry)) (now (admitted .entry)) (now (joined .entry))) p)
-        (now (out .entry)) ⌝ }
+    ensures { λ r. ⌜ (let us = users-before «user_ids» «user_links» in
+        let cs = channels-before «channel_ids» «channel_kinds» managers admitted joined in
+        answered {A = Users × Channels} r (users-after «user_ids» «user_links», channels-after «channel_ids» «channel_kinds» managers admitted joined) (now (out .exit))
+        ≡ settle (us, cs) (attachOf (grant cs) (at-limit userlimit (us .ids)) (at-limit limit (cs .ids)) us cs p) (now (out .entry))) ⌝ }
 {
     if domain_tables::at_limit(userlimit, user_ids) {
         return confirms::deny_user(out, p, Result::TooManyUsers);
@@ -86,10 +79,10 @@ fn join_at(
     j: usize,
     out: &mut [u8],
 ) -> Answer
-    ensures { λ r. ⌜ ((ids : List ℕ) → answered r (channels-of ids (now («channel_kinds» .exit)) (now (managers .exit)) (now (admitted .exit)) (now (joined .exit))) (now (out .exit))
-        ≡ settle (channels-of ids (now («channel_kinds» .entry)) (now (managers .entry)) (now (admitted .entry)) (now (joined .entry)))
-        (join-at (channels-of ids (now («channel_kinds» .entry)) (now (managers .entry)) (now (admitted .entry)) (now (joined .entry))) p u c j
-        (may (kind (channel (channels-of ids (now («channel_kinds» .entry)) (now (managers .entry)) (now (admitted .entry)) (now (joined .entry))) j)) c u i)) (now (out .entry))) ⌝ }
+    ensures { λ r. ⌜ ((ids : List ℕ) → answered r (channels-after-with ids «channel_kinds» managers admitted joined) (now (out .exit))
+        ≡ settle (channels-before-with ids «channel_kinds» managers admitted joined)
+        (join-at (channels-before-with ids «channel_kinds» managers admitted joined) p u c j
+        (may (kind (channel (channels-before-with ids «channel_kinds» managers admitted joined) j)) c u i)) (now (out .entry))) ⌝ }
 {
     let ch = domain_tables::channels::channel_at(channel_kinds, managers, admitted, joined, j);
     let result = domain_state::channel::may_join(domain_state::channel::kind_of(ch), c, u, i);
@@ -124,10 +117,9 @@ fn start(
     c: u16,
     out: &mut [u8],
 ) -> Answer
-    ensures { λ r. ⌜ answered r (channels-of (now («channel_ids» .exit)) (now («channel_kinds» .exit)) (now (managers .exit)) (now (admitted .exit)) (now (joined .exit))) (now (out .exit))
-        ≡ settle (channels-of (now («channel_ids» .entry)) (now («channel_kinds» .entry)) (now (managers .entry)) (now (admitted .entry)) (now (joined .entry)))
-        (done (add-channel (channels-of (now («channel_ids» .entry)) (now («channel_kinds» .entry)) (now (managers .entry)) (now (admitted .entry)) (now (joined .entry))) new (channel-of k (only allLinks p)))
-        (to p (CJcf successful u c (some new)) ∷ [])) (now (out .entry)) ⌝ }
+    ensures { λ r. ⌜ (let cs = channels-before «channel_ids» «channel_kinds» managers admitted joined in
+        answered r (channels-after «channel_ids» «channel_kinds» managers admitted joined) (now (out .exit))
+        ≡ settle cs (done (add-channel cs new (channel-of k (only allLinks p))) (to p (CJcf successful u c (some new)) ∷ [])) (now (out .entry))) ⌝ }
 {
     let a = confirms::take_join(out, p, u, c, new);
     if serve_reply::refused(a) {
@@ -159,10 +151,9 @@ fn join_new(
     c: u16,
     out: &mut [u8],
 ) -> Answer
-    ensures { λ r. ⌜ answered r (channels-of (now («channel_ids» .exit)) (now («channel_kinds» .exit)) (now (managers .exit)) (now (admitted .exit)) (now (joined .exit))) (now (out .exit))
-        ≡ settle (channels-of (now («channel_ids» .entry)) (now («channel_kinds» .entry)) (now (managers .entry)) (now (admitted .entry)) (now (joined .entry)))
-        (join-new (grant (channels-of (now («channel_ids» .entry)) (now («channel_kinds» .entry)) (now (managers .entry)) (now (admitted .entry)) (now (joined .entry)))) (at-limit limit (now («channel_ids» .entry)))
-        (channels-of (now («channel_ids» .entry)) (now («channel_kinds» .entry)) (now (managers .entry)) (now (admitted .entry)) (now (joined .entry))) p u c) (now (out .entry)) ⌝ }
+    ensures { λ r. ⌜ (let cs = channels-before «channel_ids» «channel_kinds» managers admitted joined in
+        answered r (channels-after «channel_ids» «channel_kinds» managers admitted joined) (now (out .exit))
+        ≡ settle cs (join-new (grant cs) (at-limit limit (cs .ids)) cs p u c) (now (out .entry))) ⌝ }
 {
     if 1000 < c {
         return confirms::deny_join(out, p, Result::NoSuchChannel, u, c);
@@ -207,12 +198,9 @@ pub fn join(
     c: u16,
     out: &mut [u8],
 ) -> Answer
-    ensures { λ r. ⌜ answered r (channels-of (now («channel_ids» .exit)) (now («channel_kinds» .exit)) (now (managers .exit)) (now (admitted .exit)) (now (joined .exit))) (now (out .exit))
-        ≡ settle (channels-of (now («channel_ids» .entry)) (now («channel_kinds» .entry)) (now (managers .entry)) (now (admitted .entry)) (now (joined .entry)))
-        (joinOf (grant (channels-of (now («channel_ids» .entry)) (now («channel_kinds» .entry)) (now (managers .entry)) (now (admitted .entry)) (now (joined .entry))))
-        (at-limit limit (now («channel_ids» .entry))) (users-of (now («user_ids» .entry)) (now («user_links» .entry)))
-        (channels-of (now («channel_ids» .entry)) (now («channel_kinds» .entry)) (now (managers .entry)) (now (admitted .entry)) (now (joined .entry))) p u c)
-        (now (out .entry)) ⌝ }
+    ensures { λ r. ⌜ (let cs = channels-before «channel_ids» «channel_kinds» managers admitted joined in
+        answered r (channels-after «channel_ids» «channel_kinds» managers admitted joined) (now (out .exit))
+        ≡ settle cs (joinOf (grant cs) (at-limit limit (cs .ids)) (users-before «user_ids» «user_links») cs p u c) (now (out .entry))) ⌝ }
 {
     let i = serve_reply::initiator(user_ids, user_links, p, u);
     if 64 <= i {
@@ -248,7 +236,7 @@ pub fn join(
 }
 
 // p has joined channel c.
-fn joined(
+fn is_joined(
     channel_ids: &[u16; 128],
     channel_kinds: &[u8; 128],
     managers: &[u8; 128],
@@ -257,7 +245,7 @@ fn joined(
     p: u8,
     c: u16,
 ) -> bool
-    ensures { λ r. ⌜ r ≡ joinedIn (channels-of (now («channel_ids» .entry)) (now («channel_kinds» .entry)) (now (managers .entry)) (now (admitted .entry)) (now (joined .entry))) p c ⌝ }
+    ensures { λ r. ⌜ r ≡ joinedIn (channels-before «channel_ids» «channel_kinds» managers admitted joined) p c ⌝ }
 {
     let j = cols_find::find(channel_ids, c);
     if j < 128 {
@@ -268,7 +256,7 @@ fn joined(
 }
 
 // p has joined one of the listed channels.
-fn joined_any(
+fn any_joined(
     channel_ids: &[u16; 128],
     channel_kinds: &[u8; 128],
     managers: &[u8; 128],
@@ -277,11 +265,11 @@ fn joined_any(
     p: u8,
     listed: &[u16],
 ) -> bool
-    ensures { λ r. ⌜ r ≡ any (joinedIn (channels-of (now («channel_ids» .entry)) (now («channel_kinds» .entry)) (now (managers .entry)) (now (admitted .entry)) (now (joined .entry))) p) (now (listed .entry)) ⌝ }
+    ensures { λ r. ⌜ r ≡ any (joinedIn (channels-before «channel_ids» «channel_kinds» managers admitted joined) p) (now (listed .entry)) ⌝ }
 {
     let mut i = 0;
     while i < listed.len() {
-        if joined(
+        if is_joined(
             channel_ids,
             channel_kinds,
             managers,
@@ -379,8 +367,8 @@ fn leave_all(
     p: u8,
     listed: &[u16],
 )
-    ensures { λ _. ⌜ channels-of (now («channel_ids» .exit)) (now («channel_kinds» .exit)) (now (managers .exit)) (now (admitted .exit)) (now (joined .exit))
-        ≡ sweep-channels (left p (now (listed .entry))) (channels-of (now («channel_ids» .entry)) (now («channel_kinds» .entry)) (now (managers .entry)) (now (admitted .entry)) (now (joined .entry))) ⌝ }
+    ensures { λ _. ⌜ channels-after «channel_ids» «channel_kinds» managers admitted joined
+        ≡ sweep-channels (left p (now (listed .entry))) (channels-before «channel_ids» «channel_kinds» managers admitted joined) ⌝ }
 {
     let n = width(channel_ids, channel_kinds, managers, admitted, joined);
     let mut j = cols_walk::used_from(channel_ids, 0);
@@ -411,15 +399,14 @@ pub fn leave_channels(
     count: usize,
     out: &mut [u8],
 ) -> Answer
-    ensures { λ r. ⌜ answered r (channels-of (now («channel_ids» .exit)) (now («channel_kinds» .exit)) (now (managers .exit)) (now (admitted .exit)) (now (joined .exit))) (now (out .exit))
-        ≡ settle (channels-of (now («channel_ids» .entry)) (now («channel_kinds» .entry)) (now (managers .entry)) (now (admitted .entry)) (now (joined .entry)))
-        (leaveOf (channels-of (now («channel_ids» .entry)) (now («channel_kinds» .entry)) (now (managers .entry)) (now (admitted .entry)) (now (joined .entry))) p (take count (now (listed .entry))))
-        (now (out .entry)) ⌝ }
+    ensures { λ r. ⌜ (let cs = channels-before «channel_ids» «channel_kinds» managers admitted joined in
+        answered r (channels-after «channel_ids» «channel_kinds» managers admitted joined) (now (out .exit))
+        ≡ settle cs (leaveOf cs p (take count (now (listed .entry)))) (now (out .entry))) ⌝ }
 {
     let all = &listed[..];
     let n = cols_walk::at_most(count, all.len());
     let list = &all[..n];
-    if joined_any(
+    if any_joined(
         channel_ids,
         channel_kinds,
         managers,

@@ -3,10 +3,11 @@ ghost use mathlib.Core.Path.{_≡_};
 ghost use Prim.Native.Nat.{ℕ};
 ghost use lib.ListN.{take};
 ghost use Rattle.domain.specs.declared.Limits.{Limits as LimitsOf};
-ghost use Rattle.domain.specs.Tables.{Tokens, users-of, channels-of, domain-of, grant};
+ghost use Rattle.domain.specs.Tables.{Tokens, grant};
+ghost use Rattle.domain.specs.Lent.{channels-after, channels-before, domain-after, domain-before, users-after, users-before};
 ghost use Rattle.domain.specs.Effects.{answered, settle};
 ghost use Rattle.domain.specs.Events.{act};
-ghost use Rattle.domain.specs.Joined.{joined};
+ghost use Rattle.domain.specs.Assembled.{assembled};
 ghost use Rattle.serve_read.specs.Requests.{brief-request, listed-request};
 use domain::Limits;
 use domain::answer::Answer;
@@ -28,14 +29,10 @@ pub fn brief_request(
     second: u16,
     out: &mut [u8],
 ) -> Answer
-    ensures { λ r. ⌜ ((m : ℕ) (ts : Tokens) → answered r (joined limits m (users-of (now («user_ids» .exit)) (now («user_links» .exit)))
-        (channels-of (now («channel_ids» .exit)) (now («channel_kinds» .exit)) (now (managers .exit)) (now (admitted .exit)) (now (joined .exit))) ts) (now (out .exit))
-        ≡ settle (joined limits m (users-of (now («user_ids» .entry)) (now («user_links» .entry)))
-        (channels-of (now («channel_ids» .entry)) (now («channel_kinds» .entry)) (now (managers .entry)) (now (admitted .entry)) (now (joined .entry))) ts)
-        (act (grant (channels-of (now («channel_ids» .entry)) (now («channel_kinds» .entry)) (now (managers .entry)) (now (admitted .entry)) (now (joined .entry))))
-        (joined limits m (users-of (now («user_ids» .entry)) (now («user_links» .entry)))
-        (channels-of (now («channel_ids» .entry)) (now («channel_kinds» .entry)) (now (managers .entry)) (now (admitted .entry)) (now (joined .entry))) ts)
-        p (brief-request number first second)) (now (out .entry))) ⌝ }
+    ensures { λ r. ⌜ ((m : ℕ) (ts : Tokens) →
+        let d = assembled limits m (users-before «user_ids» «user_links») (channels-before «channel_ids» «channel_kinds» managers admitted joined) ts in
+        answered r (assembled limits m (users-after «user_ids» «user_links») (channels-after «channel_ids» «channel_kinds» managers admitted joined) ts) (now (out .exit))
+        ≡ settle d (act (grant (d .channels)) d p (brief-request number first second)) (now (out .entry))) ⌝ }
 {
     match number {
         10 => {
@@ -125,14 +122,10 @@ pub fn listed_request(
     count: usize,
     out: &mut [u8],
 ) -> Answer
-    ensures { λ r. ⌜ ((l : LimitsOf) → answered r (domain-of l (now (links .exit)) (now («user_ids» .exit)) (now («user_links» .exit)) (now («channel_ids» .exit)) (now («channel_kinds» .exit))
-        (now (managers .exit)) (now (admitted .exit)) (now (joined .exit)) (now («token_ids» .exit)) (now («token_states» .exit)) (now («token_values» .exit))) (now (out .exit))
-        ≡ settle (domain-of l (now (links .entry)) (now («user_ids» .entry)) (now («user_links» .entry)) (now («channel_ids» .entry)) (now («channel_kinds» .entry))
-        (now (managers .entry)) (now (admitted .entry)) (now (joined .entry)) (now («token_ids» .entry)) (now («token_states» .entry)) (now («token_values» .entry)))
-        (act (grant (channels-of (now («channel_ids» .entry)) (now («channel_kinds» .entry)) (now (managers .entry)) (now (admitted .entry)) (now (joined .entry))))
-        (domain-of l (now (links .entry)) (now («user_ids» .entry)) (now («user_links» .entry)) (now («channel_ids» .entry)) (now («channel_kinds» .entry))
-        (now (managers .entry)) (now (admitted .entry)) (now (joined .entry)) (now («token_ids» .entry)) (now («token_states» .entry)) (now («token_values» .entry)))
-        p (listed-request number first second (take count (now (listed .entry))))) (now (out .entry))) ⌝ }
+    ensures { λ r. ⌜ ((l : LimitsOf) →
+        let d = domain-before l links «user_ids» «user_links» «channel_ids» «channel_kinds» managers admitted joined «token_ids» «token_states» «token_values» in
+        answered r (domain-after l links «user_ids» «user_links» «channel_ids» «channel_kinds» managers admitted joined «token_ids» «token_states» «token_values») (now (out .exit))
+        ≡ settle d (act (grant (d .channels)) d p (listed-request number first second (take count (now (listed .entry))))) (now (out .entry))) ⌝ }
 {
     match number {
         1 => Answer {

@@ -19,7 +19,7 @@ use Rattle.cols_spec.proofs.Kept.{picked-length, each-picked}
 use Rattle.domain.specs.Tables.{Users, users-of, link, attached}
 use Rattle.domain.specs.Leaving.{those-on}
 use Rattle.serve_leave.specs.declared.Leavers.{Leavers}
-use Rattle.serve_leave.specs.Lists.{Leaves, joined, Adds}
+use Rattle.serve_leave.specs.Lists.{Leaves, with-leaver, Adds}
 use Rattle.serve_leave.proofs.LeaverLaws.{leaves-nobody, chosen}
 
 -- ---- those on p, of a list in two parts
@@ -83,12 +83,12 @@ module _ {us : Users} {p : ℕ} {all kept list : List ℕ} {t : Leavers} {low re
         go true q = absurd (omega (arith, above, s .under u q))
         go false q = refl
 
-    one-on : joined us p (s .done) u ≡ s .done ++ those-on us p (u ∷ [])
-    unfolding joined those-on keep
+    one-on : with-leaver us p (s .done) u ≡ s .done ++ those-on us p (u ∷ [])
+    unfolding with-leaver those-on keep
     one-on = rw (unlisted, and-true (found (attached us p u))) refl
 
-    not-above : (y : ℕ) → member y (joined us p (s .done) u) ≡ true → y ≤ u
-    unfolding joined member any
+    not-above : (y : ℕ) → member y (with-leaver us p (s .done) u) ≡ true → y ≤ u
+    unfolding with-leaver member any
     not-above y m =
         or-elim (member y (s .done)) _ (sym (member-append y (s .done) _) ∙ m) (λ q. omega (arith, above, s .under y q)) (go (found (attached us p u) && not (member u (s .done))))
       where
@@ -100,7 +100,7 @@ module _ {us : Users} {p : ℕ} {all kept list : List ℕ} {t : Leavers} {low re
     gather-turn h g =
         record {
           room = omega (arith, g .few, s .room);
-          done = joined us p (s .done) u;
+          done = with-leaver us p (s .done) u;
           leaves = g .grows (s .done) (s .leaves);
           under = not-above;
           left = s .left ∙ ap (λ (l : List ℕ). s .done ++ those-on us p l) (go rest h) ∙ ap (λ (l : List ℕ). s .done ++ l) (on-append us p (u ∷ []) (rising (rest - 1) u kept))

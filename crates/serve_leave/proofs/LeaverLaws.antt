@@ -15,7 +15,7 @@ use Rattle.domain.specs.Tables.{Users, link, attached}
 use Rattle.domain.proofs.Listed.{places-has}
 use Rattle.domain_tables.proofs.Marking.{places-none, places-more}
 use Rattle.serve_leave.specs.declared.Leavers.{Leavers}
-use Rattle.serve_leave.specs.Lists.{Leaves, joined, Adds}
+use Rattle.serve_leave.specs.Lists.{Leaves, with-leaver, Adds}
 
 pub leaves-nobody : (us : Users) (list : List ℕ) → Leaves us [] list (record { count = 0; seats = 0 })
 leaves-nobody us list = record { held = refl; few = zero-le; inside = zero-le; seated = places-none us }
@@ -38,8 +38,8 @@ attached-find us p u i = go (find (us .ids) u)
 
 -- ---- one user more: what the search for it answers decides
 module _ (us : Users) (p u : ℕ) (list : List ℕ) (t : Leavers) where
-  joined-same : (ids : List ℕ) → (found (attached us p u) && not (member u ids)) ≡ false → ids ≡ joined us p ids u
-  unfolding joined
+  joined-same : (ids : List ℕ) → (found (attached us p u) && not (member u ids)) ≡ false → ids ≡ with-leaver us p ids u
+  unfolding with-leaver
   joined-same ids e = rw e (sym (append-nil ids))
 
   stays : ((ids : List ℕ) → Leaves us ids list t → (found (attached us p u) && not (member u ids)) ≡ false) → Adds us p u list t list t
@@ -64,7 +64,7 @@ module _ (us : Users) (p u : ℕ) (list : List ℕ) (t : Leavers) where
 
       pub adds-new : has (t .seats) j ≡ false → t .count < 64 → length list ≡ 64 → (mask : ℕ) → mask ≡ with seats (t .seats) j
           → Adds us p u list t (set list (t .count) u) (record { count = t .count + 1; seats = mask })
-      unfolding found joined number
+      unfolding found with-leaver number
       adds-new e h size mask m = record {
         grows = λ ids l. rw (here, sym (seen ids l) ∙ e) (record {
           held = rw (add-one (t .count)) (take-suc-set list (t .count) u (omega arith)) ∙ ap (λ (l : List ℕ). l ++ u ∷ []) (l .held);

@@ -12,7 +12,7 @@ use Rattle.domain_tables.proofs.OneMore.{kept-last}
 use Rattle.domain.specs.Tables.{Users, attached}
 use Rattle.domain.specs.Leaving.{those-on}
 use Rattle.serve_leave.specs.declared.Leavers.{Leavers}
-use Rattle.serve_leave.specs.Lists.{Leaves, joined, Adds}
+use Rattle.serve_leave.specs.Lists.{Leaves, with-leaver, Adds}
 use Rattle.serve_leave.proofs.LeaverLaws.{leaves-nobody}
 
 pub record Picking (us : Users) (p : ℕ) (ids list : List ℕ) (t : Leavers) (i : ℕ) : Type 0 where
@@ -24,8 +24,8 @@ pub pick-start : (us : Users) (p : ℕ) (ids : List ℕ) → Picking us p ids id
 unfolding those-on once firsts keep
 pick-start us p ids = record { before = zero-le; behind = λ j h. refl; leaves = leaves-nobody us ids }
 
-on-last : (us : Users) (p : ℕ) (xs : List ℕ) (x : ℕ) → those-on us p (once (xs ++ x ∷ [])) ≡ joined us p (those-on us p (once xs)) x
-unfolding those-on joined
+on-last : (us : Users) (p : ℕ) (xs : List ℕ) (x : ℕ) → those-on us p (once (xs ++ x ∷ [])) ≡ with-leaver us p (those-on us p (once xs)) x
+unfolding those-on with-leaver
 on-last us p xs x = kept-last (λ u. found (attached us p u)) xs x
 
 pub pick-turn : {us : Users} {p : ℕ} {ids list : List ℕ} {t : Leavers} {i u : ℕ} {after : List ℕ} {r : Leavers}

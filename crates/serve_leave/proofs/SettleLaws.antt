@@ -7,7 +7,7 @@ use native.Mathlib.Nat.{zero-add}
 use borrow.Author.Tests.{eqb-true, not-true}
 use lib.Dec.{eqb}
 use lib.ListN.{length, take}
-use Rattle.cols_spec.specs.Sets.{if_then_else_, null, member, without, once, links}
+use Rattle.cols_spec.specs.Sets.{if_then_else_, null, member, without, once, connections}
 use Rattle.cols_spec.specs.Places.{Place, At, Nowhere, find, found, inOrder}
 use Rattle.cols_spec.proofs.Bools.{and-parts}
 use Rattle.cols_spec.proofs.Members.{member-keep}
@@ -16,9 +16,9 @@ use Rattle.out_records.specs.Out.{Puts}
 use Rattle.domain.specs.declared.Limits.{Limits}
 use Rattle.domain.specs.Tables.{Users, Channels, Tokens, Domain, attached, remove-users, sweep-channels, sweep-tokens}
 use Rattle.domain.specs.Tokens.{lose}
-use Rattle.domain.specs.Effects.{Effect, settled, sends, settle}
+use Rattle.domain.specs.Effects.{Effect, settled, delivers, settle}
 use Rattle.domain.specs.Leaving.{fate, farewell, leave, those-on, detach, close}
-use Rattle.domain.proofs.Effects.{sends-full, sends-done}
+use Rattle.domain.proofs.Effects.{delivers-full, delivers-done}
 use Rattle.serve_leave.specs.declared.Leavers.{Leavers}
 use Rattle.serve_leave.specs.Lists.{Leaves}
 use Rattle.serve_leave.proofs.LeaverLaws.{chosen}
@@ -49,7 +49,7 @@ module _ (l : Limits) (m : ℕ) (us : Users) (cs : Channels) (ts : Tokens) (live
   abbrev told : List Sent
   told = farewell before (who .seats) live reason (take (who .count) list)
 
-  leaves : sends 0 before after told out ≡ settle before (leave before live reason (those-on us p xs)) out
+  leaves : delivers 0 before after told out ≡ settle before (leave before live reason (those-on us p xs)) out
   unfolding leave settle
   leaves = rw (h .held, h .seated) refl
 
@@ -58,12 +58,12 @@ module _ (l : Limits) (m : ℕ) (us : Users) (cs : Channels) (ts : Tokens) (live
 
   module _ (k : ℕ) where
     pub leave-full : k ≡ length (records told) → length out < k → settled 9 0 before out ≡ settle before (leave before live reason (those-on us p xs)) out
-    leave-full size few = sends-full 0 before after told out k (size ∙ sym (zero-add _)) few ∙ leaves
+    leave-full size few = delivers-full 0 before after told out k (size ∙ sym (zero-add _)) few ∙ leaves
 
     pub leave-done : length (us .ids) ≡ 64 → k ≤ length out → (us' : Users) (cs' : Channels) (ts' : Tokens) (o : List ℕ) → us' ≡ remove-users us (who .seats)
         → cs' ≡ sweep-channels (fate-by us (take (who .count) list) (who .seats) live) cs → ts' ≡ sweep-tokens (lose (who .seats)) ts → Puts out 0 (records told) o k
         → settled 0 k (domain l live us' cs' ts') o ≡ settle before (leave before live reason (those-on us p xs)) out
-    leave-done size fits us' cs' ts' o u v w put = rw (u, v ∙ same-fates size, w) (sends-done 0 before after told out k (put .next) fits out o k refl put ∙ leaves)
+    leave-done size fits us' cs' ts' o u v w put = rw (u, v ∙ same-fates size, w) (delivers-done 0 before after told out k (put .next) fits out o k refl put ∙ leaves)
 
 -- ---- DUrq, or p closes
 -- what the test says: nobody is listed for a DUrq, or not so
@@ -86,7 +86,7 @@ module _ (d : Domain) (p reason : ℕ) (ids out : List ℕ) where
   depart-nobody true e z = absurd (true≢false e)
   depart-nobody false e z = rw z refl
 
-  pub depart-some : (closes : Bool) (live why : ℕ) → live ≡ (if closes then without links (d .links) p else d .links) → why ≡ (if closes then 0 else reason)
+  pub depart-some : (closes : Bool) (live why : ℕ) → live ≡ (if closes then without connections (d .links) p else d .links) → why ≡ (if closes then 0 else reason)
       → (closes ≡ false → null (listed closes) ≡ false) → settle d (leave d live why (listed closes)) out ≡ settle d (departs closes) out
   unfolding close detach
   depart-some true live why e r z = rw (e, r) refl

@@ -18,11 +18,11 @@ pub record Leaves (us : Users) (ids list : List ℕ) (t : Leavers) : Type 0 wher
   pub seated : t .seats ≡ places us ids
 
 -- `ids` with user u behind them, where u is attached on p and none of them
-unfoldable pub joined : (us : Users) (p : ℕ) (ids : List ℕ) (u : ℕ) → List ℕ
-joined us p ids u = ids ++ (if found (attached us p u) && not (member u ids) then u ∷ [] else [])
+unfoldable pub with-leaver : (us : Users) (p : ℕ) (ids : List ℕ) (u : ℕ) → List ℕ
+with-leaver us p ids u = ids ++ (if found (attached us p u) && not (member u ids) then u ∷ [] else [])
 
 -- what is listed then: `list` and `t` become `after` and `r`. What stands further behind stays
 pub record Adds (us : Users) (p u : ℕ) (list : List ℕ) (t : Leavers) (after : List ℕ) (r : Leavers) : Type 0 where
-  pub grows : (ids : List ℕ) → Leaves us ids list t → Leaves us (joined us p ids u) after r
+  pub grows : (ids : List ℕ) → Leaves us ids list t → Leaves us (with-leaver us p ids u) after r
   pub few : r .count ≤ t .count + 1
   pub behind : (j : ℕ) → t .count < j → getD after j 0 ≡ getD list j 0

@@ -1,14 +1,15 @@
-// Leaving: the users listed in a DUrq, or all those of a connection that closes. They leave together, judged on the tables before.
+// Leaving: the users listed in a DUrq, or all those of a connection that closes. They leave together, judged on the tables before. Who
+// leaves is listed first: their ids in a list that is lent, and their places.
 ghost use mathlib.Core.Path.{_≡_};
 ghost use mathlib.Core.List.{List};
 ghost use Prim.Native.Nat.{ℕ, _%_, _≤_, _<_};
 ghost use lib.ListN.{length, take};
-ghost use Rattle.cols_spec.specs.Sets.{if_then_else_, without, once, links as allLinks};
+ghost use Rattle.cols_spec.specs.Sets.{if_then_else_, without, once, connections as allLinks};
 ghost use Rattle.cols_spec.specs.Places.{inOrder};
 ghost use Rattle.out_records.specs.Records.{records};
 ghost use Rattle.out_records.specs.Out.{Puts};
 ghost use Rattle.domain.specs.declared.Limits.{Limits};
-ghost use Rattle.domain.specs.Tables.{users-of, domain-of};
+ghost use Rattle.domain.specs.Lent.{domain-after, domain-before, domain-before-with, users-before};
 ghost use Rattle.domain.specs.Effects.{settle, answered};
 ghost use Rattle.domain.specs.Leaving.{those-on, farewell as farewellOf, leave as leaveOf, detach as detachOf, close as closeOf};
 ghost use Rattle.serve_leave.specs.Lists.{Leaves, Adds};
@@ -36,12 +37,10 @@ fn say(
     list: &[u16; 64],
     count: usize,
 ) -> usize
-    ensures { λ r. ⌜ ((l : Limits) (links : ℕ) → (r ≡ length (records (farewellOf (domain-of l links (now («user_ids» .entry)) (now («user_links» .entry)) (now («channel_ids» .entry)) (now («channel_kinds» .entry))
-        (now (managers .entry)) (now (admitted .entry)) (now (joined .entry)) (now («token_ids» .entry)) (now («token_states» .entry)) (now («token_values» .entry)))
-        gone live reason (take count (now (list .entry))))))
-        × (r ≤ length (now (out .entry)) → Puts (now (out .entry)) 0 (records (farewellOf (domain-of l links (now («user_ids» .entry)) (now («user_links» .entry)) (now («channel_ids» .entry)) (now («channel_kinds» .entry))
-        (now (managers .entry)) (now (admitted .entry)) (now (joined .entry)) (now («token_ids» .entry)) (now («token_states» .entry)) (now («token_values» .entry)))
-        gone live reason (take count (now (list .entry))))) (now (out .exit)) r))
+    ensures { λ r. ⌜ ((l : Limits) (links : ℕ) →
+        let d = domain-before-with l links «user_ids» «user_links» «channel_ids» «channel_kinds» managers admitted joined «token_ids» «token_states» «token_values» in
+        let os = records (farewellOf d gone live reason (take count (now (list .entry)))) in
+        (r ≡ length os) × (r ≤ length (now (out .entry)) → Puts (now (out .entry)) 0 os (now (out .exit)) r))
         × (length (now (out .entry)) < r → now (out .exit) ≡ now (out .entry)) ⌝ }
 {
     // How long the columns are: so many records at most.
@@ -97,15 +96,12 @@ fn leave(
     out: &mut [u8],
 ) -> Answer
     requires { ⌜ who .count ≤ 64 ⌝ }
-    ensures { λ r. ⌜ ((l : Limits) (p : ℕ) (us : List ℕ)
-        → Leaves (users-of (now («user_ids» .entry)) (now («user_links» .entry))) (those-on (users-of (now («user_ids» .entry)) (now («user_links» .entry))) p us) (now (list .entry)) who
-        → answered r (domain-of l (now (links .exit)) (now («user_ids» .exit)) (now («user_links» .exit)) (now («channel_ids» .exit)) (now («channel_kinds» .exit))
-        (now (managers .exit)) (now (admitted .exit)) (now (joined .exit)) (now («token_ids» .exit)) (now («token_states» .exit)) (now («token_values» .exit))) (now (out .exit))
-        ≡ settle (domain-of l (now (links .entry)) (now («user_ids» .entry)) (now («user_links» .entry)) (now («channel_ids» .entry)) (now («channel_kinds» .entry))
-        (now (managers .entry)) (now (admitted .entry)) (now (joined .entry)) (now («token_ids» .entry)) (now («token_states» .entry)) (now («token_values» .entry)))
-        (leaveOf (domain-of l (now (links .entry)) (now («user_ids» .entry)) (now («user_links» .entry)) (now («channel_ids» .entry)) (now («channel_kinds» .entry))
-        (now (managers .entry)) (now (admitted .entry)) (now (joined .entry)) (now («token_ids» .entry)) (now («token_states» .entry)) (now («token_values» .entry)))
-        live reason (those-on (users-of (now («user_ids» .entry)) (now («user_links» .entry))) p us)) (now (out .entry))) ⌝ }
+    ensures { λ r. ⌜ ((l : Limits) (p : ℕ) (us : List ℕ) →
+        let d = domain-before l links «user_ids» «user_links» «channel_ids» «channel_kinds» managers admitted joined «token_ids» «token_states» «token_values» in
+        let gone = those-on (d .users) p us in
+        Leaves (d .users) gone (now (list .entry)) who
+        → answered r (domain-after l links «user_ids» «user_links» «channel_ids» «channel_kinds» managers admitted joined «token_ids» «token_states» «token_values») (now (out .exit))
+        ≡ settle d (leaveOf d live reason gone) (now (out .entry))) ⌝ }
 {
     // How long the column is: a place for each user.
     let n = user_ids[..].len();
@@ -166,8 +162,8 @@ fn who_leaves(
     list: &mut [u16; 64],
     count: usize,
 ) -> Leavers
-    ensures { λ r. ⌜ Leaves (users-of (now («user_ids» .entry)) (now («user_links» .entry))) (those-on (users-of (now («user_ids» .entry)) (now («user_links» .entry))) p
-        (if closes then inOrder (now («user_ids» .entry)) else once (take count (now (list .entry))))) (now (list .exit)) r ⌝ }
+    ensures { λ r. ⌜ (let us = users-before «user_ids» «user_links» in
+        Leaves us (those-on us p (if closes then inOrder (us .ids) else once (take count (now (list .entry))))) (now (list .exit)) r) ⌝ }
 {
     if closes {
         return all_on(user_ids, user_links, p, list);
@@ -216,13 +212,10 @@ pub fn depart(
     count: usize,
     out: &mut [u8],
 ) -> Answer
-    ensures { λ r. ⌜ ((l : Limits) → answered r (domain-of l (now (links .exit)) (now («user_ids» .exit)) (now («user_links» .exit)) (now («channel_ids» .exit)) (now («channel_kinds» .exit))
-        (now (managers .exit)) (now (admitted .exit)) (now (joined .exit)) (now («token_ids» .exit)) (now («token_states» .exit)) (now («token_values» .exit))) (now (out .exit))
-        ≡ settle (domain-of l (now (links .entry)) (now («user_ids» .entry)) (now («user_links» .entry)) (now («channel_ids» .entry)) (now («channel_kinds» .entry))
-        (now (managers .entry)) (now (admitted .entry)) (now (joined .entry)) (now («token_ids» .entry)) (now («token_states» .entry)) (now («token_values» .entry)))
-        (if closes then closeOf (domain-of l (now (links .entry)) (now («user_ids» .entry)) (now («user_links» .entry)) (now («channel_ids» .entry)) (now («channel_kinds» .entry))
-        (now (managers .entry)) (now (admitted .entry)) (now (joined .entry)) (now («token_ids» .entry)) (now («token_states» .entry)) (now («token_values» .entry))) p else detachOf (domain-of l (now (links .entry)) (now («user_ids» .entry)) (now («user_links» .entry)) (now («channel_ids» .entry)) (now («channel_kinds» .entry))
-        (now (managers .entry)) (now (admitted .entry)) (now (joined .entry)) (now («token_ids» .entry)) (now («token_states» .entry)) (now («token_values» .entry))) p (reason % 8) (take count (now (list .entry)))) (now (out .entry))) ⌝ }
+    ensures { λ r. ⌜ ((l : Limits) →
+        let d = domain-before l links «user_ids» «user_links» «channel_ids» «channel_kinds» managers admitted joined «token_ids» «token_states» «token_values» in
+        answered r (domain-after l links «user_ids» «user_links» «channel_ids» «channel_kinds» managers admitted joined «token_ids» «token_states» «token_values») (now (out .exit))
+        ≡ settle d (if closes then closeOf d p else detachOf d p (reason % 8) (take count (now (list .entry)))) (now (out .entry))) ⌝ }
 {
     let who = who_leaves(user_ids, user_links, closes, p, list, count);
     if (who.count == 0) & !closes {
@@ -253,8 +246,6 @@ pub fn depart(
     )
 }
 
-// Who leaves: their ids in a list that is lent, and their places.
-
 // How many leave: so many ids from the list's start on. And the places of their users.
 pub struct Leavers {
     pub count: usize,
@@ -271,7 +262,7 @@ fn add_leaver(
     t: Leavers,
 ) -> Leavers
     requires { ⌜ t .count < 64 ⌝ }
-    ensures { λ r. ⌜ Adds (users-of (now («user_ids» .entry)) (now («user_links» .entry))) p u (now (list .entry)) t (now (list .exit)) r ⌝ }
+    ensures { λ r. ⌜ Adds (users-before «user_ids» «user_links») p u (now (list .entry)) t (now (list .exit)) r ⌝ }
 {
     // How long the columns are: a place below is found, and there is room for one id more.
     let all = user_ids[..].len();
@@ -299,8 +290,8 @@ pub fn listed_on(
     list: &mut [u16; 64],
     count: usize,
 ) -> Leavers
-    ensures { λ r. ⌜ Leaves (users-of (now («user_ids» .entry)) (now («user_links» .entry)))
-        (those-on (users-of (now («user_ids» .entry)) (now («user_links» .entry))) p (once (take count (now (list .entry))))) (now (list .exit)) r ⌝ }
+    ensures { λ r. ⌜ (let us = users-before «user_ids» «user_links» in
+        Leaves us (those-on us p (once (take count (now (list .entry))))) (now (list .exit)) r) ⌝ }
 {
     let m = cols_walk::at_most(count, list[..].len());
     let mut t = Leavers { count: 0, seats: 0 };
@@ -315,8 +306,8 @@ pub fn listed_on(
 
 // The users on p, ascending.
 pub fn all_on(user_ids: &[u16; 64], user_links: &[u8; 64], p: u8, list: &mut [u16; 64]) -> Leavers
-    ensures { λ r. ⌜ Leaves (users-of (now («user_ids» .entry)) (now («user_links» .entry)))
-        (those-on (users-of (now («user_ids» .entry)) (now («user_links» .entry))) p (inOrder (now («user_ids» .entry)))) (now (list .exit)) r ⌝ }
+    ensures { λ r. ⌜ (let us = users-before «user_ids» «user_links» in
+        Leaves us (those-on us p (inOrder (us .ids))) (now (list .exit)) r) ⌝ }
 {
     // How long the columns are: each user has a connection.
     let all = user_links[..].len();

@@ -6,7 +6,7 @@ use Prim.Native.Nat.{ℕ, zero, suc, _+_, _-_, _≤_, _<_}
 use native.Mathlib.Omega.{arith}
 use lib.Dec.{eqb, ltb}
 use borrow.Author.Tests.{eqb-true, ltb-true, ltb-false, lt-ltb}
-use Rattle.cols_spec.specs.Sets.{any, member, has, marked, NextIn}
+use Rattle.cols_spec.specs.Sets.{any, member, has, ids-above, NextIn}
 use Rattle.cols_spec.specs.Places.{next}
 use Rattle.cols_spec.proofs.Bools.{or-parts, or-elim}
 use Rattle.cols_spec.proofs.Gaps.{has-marked}
@@ -15,7 +15,7 @@ use Rattle.serve_leave_records.specs.Endings.{other, NextMark}
 
 -- ---- the first number of two masks
 
-module _ {low high from q : ℕ} (xs : List ℕ) (a : low ≡ marked 1000 xs) (b : high ≡ marked 1064 xs) (p : NextIn low from q) where
+module _ {low high from q : ℕ} (xs : List ℕ) (a : low ≡ ids-above 1000 xs) (b : high ≡ ids-above 1064 xs) (p : NextIn low from q) where
   low-has : (k : ℕ) → k < 64 → has low k ≡ member (1001 + k) xs
   low-has k l = ap (λ (m : ℕ). has m k) a ∙ has-marked 1000 xs k l
 

@@ -8,7 +8,7 @@ use native.Mathlib.Omega.{arith}
 use lib.ListN.{length, getD, take}
 use lib.Seq.{take-suc, take-all}
 use borrow.Author.Tests.{ne-eqb}
-use Rattle.cols_spec.specs.Sets.{if_then_else_, any, member, union, marked, seats}
+use Rattle.cols_spec.specs.Sets.{if_then_else_, any, member, union, ids-above, seats}
 use Rattle.cols_spec.specs.Places.{picked}
 use Rattle.cols_spec.proofs.Below.{across}
 use Rattle.cols_spec.proofs.Digits.{is-those, those-lt, or-union}
@@ -20,8 +20,8 @@ use Rattle.serve_leave_records.specs.Endings.{other, Marks}
 
 -- ---- one list behind another
 
-marked-both : (low : ℕ) (xs ys : List ℕ) → union seats (marked low xs) (marked low ys) ≡ marked low (xs ++ ys)
-marked-both low xs ys = sym (or-union 64 (marked low xs) (marked low ys) (marked-lt low xs) (marked-lt low ys)) ∙ marked-append low xs ys
+marked-both : (low : ℕ) (xs ys : List ℕ) → union seats (ids-above low xs) (ids-above low ys) ≡ ids-above low (xs ++ ys)
+marked-both low xs ys = sym (or-union 64 (ids-above low xs) (ids-above low ys) (marked-lt low xs) (marked-lt low ys)) ∙ marked-append low xs ys
 
 any-both : (f : ℕ → Bool) (xs ys : List ℕ) → any f (xs ++ ys) ≡ (any f xs || any f ys)
 unfolding any
@@ -34,8 +34,8 @@ any-both f (x ∷ xs) ys = go (f x) (any-both f xs ys)
 
 -- ---- one more
 
-pub marks-more : (c : ℕ) {xs : List ℕ} {low high : ℕ} {beyond : Bool} {e : Ending} → Marks xs e → low ≡ union seats (e .low) (marked 1000 (c ∷ []))
-    → high ≡ union seats (e .high) (marked 1064 (c ∷ [])) → beyond ≡ (e .beyond || other c) → Marks (xs ++ c ∷ []) (record { low = low; high = high; beyond = beyond })
+pub marks-more : (c : ℕ) {xs : List ℕ} {low high : ℕ} {beyond : Bool} {e : Ending} → Marks xs e → low ≡ union seats (e .low) (ids-above 1000 (c ∷ []))
+    → high ≡ union seats (e .high) (ids-above 1064 (c ∷ [])) → beyond ≡ (e .beyond || other c) → Marks (xs ++ c ∷ []) (record { low = low; high = high; beyond = beyond })
 unfolding any
 marks-more c {xs} m a b d = record {
   low-are = a ∙ rw (m .low-are) (marked-both 1000 xs (c ∷ []));
@@ -49,9 +49,9 @@ pub marks-start : Marks [] (record { low = 0; high = 0; beyond = false })
 unfolding any
 marks-start = record { low-are = marked-none 1000; high-are = marked-none 1064; others = refl }
 
-marked-zero : (low : ℕ) (xs : List ℕ) → marked low (xs ++ 0 ∷ []) ≡ marked low xs
-unfolding marked member any
-marked-zero low xs = is-those 64 (marked low (xs ++ 0 ∷ [])) _ (those-lt 64 _) (λ k l.
+marked-zero : (low : ℕ) (xs : List ℕ) → ids-above low (xs ++ 0 ∷ []) ≡ ids-above low xs
+unfolding ids-above member any
+marked-zero low xs = is-those 64 (ids-above low (xs ++ 0 ∷ [])) _ (those-lt 64 _) (λ k l.
     has-marked low (xs ++ 0 ∷ []) k l ∙ member-append (low + 1 + k) xs (0 ∷ []) ∙ rw (ne-eqb (low + 1 + k) 0 (λ z. omega arith)) (or-false (member (low + 1 + k) xs)))
 
 marks-free : {xs : List ℕ} {e : Ending} → Marks xs e → Marks (xs ++ 0 ∷ []) e

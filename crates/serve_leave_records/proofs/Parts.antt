@@ -5,11 +5,11 @@ use mathlib.Core.List.{List, [], _∷_, _++_}
 use Prim.Native.Nat.{ℕ, _+_, _*_, _≤_, _<_}
 use native.Mathlib.Omega.{arith}
 use lib.ListN.{length, take, getD, length-append}
-use Rattle.cols_spec.specs.Sets.{if_then_else_, null, each, has, with, meet, links, seats}
+use Rattle.cols_spec.specs.Sets.{if_then_else_, null, each, has, with, meet, connections, seats}
 use Rattle.cols_spec.specs.Places.{Place, At, Nowhere, find, load, number, inOrder}
 use Rattle.cols_spec.proofs.Order.{in-order-length}
 use Rattle.codec_table.specs.Named.{DUin, CDin, TVcf, no-such-user}
-use Rattle.out_records.specs.Records.{Sent, to, tell, wire, records, framed}
+use Rattle.out_records.specs.Records.{Sent, to, tell, wire, records, record-of}
 use Rattle.out_records.specs.Out.{Puts, guarded, listing, told}
 use Rattle.out_records.proofs.Laying.{held, held-inside, held-count, held-length, ids-length}
 use Rattle.out_records.proofs.Telling.{records-none, records-append, put-told, put-sent, put-more, put-nobody, sent-length, told-length}
@@ -83,7 +83,7 @@ CDin-length : (c : ℕ) → length (wire (CDin c)) ≡ 3
 CDin-length c = ap length (wire-CDin c)
 
 module _ (us : Users) (gone live c g guests : ℕ) where
-  pub ended-some : {out o m : List ℕ} {at k : ℕ} → has gone g ≡ true → m ≡ wire (CDin c) → at ≤ 65535 → (mask : ℕ) → mask ≡ meet links (hosts us (with seats guests g)) live
+  pub ended-some : {out o m : List ℕ} {at k : ℕ} → has gone g ≡ true → m ≡ wire (CDin c) → at ≤ 65535 → (mask : ℕ) → mask ≡ meet connections (hosts us (with seats guests g)) live
       → Puts out at (guarded at m (told mask m)) o k → Puts out at (records (ended us gone live c (Private g guests))) o k
   unfolding ended
   ended-some {out} {o} {m} h e l mask z p = rw (h, ← z) (put-told (CDin c) m e l (omega (arith, ap length e, CDin-length c)) mask p)
@@ -99,8 +99,8 @@ ended-length us gone live c User = omega (arith, ap length records-none)
 ended-length us gone live c Assigned = omega (arith, ap length records-none)
 ended-length us gone live c (Private g adm) = go (has gone g)
   where
-    go : (b : Bool) → length (records (if b then tell (meet links (hosts us (with seats adm g)) live) (CDin c) else [])) ≤ 112
-    go true = omega (arith, told-length (meet links (hosts us (with seats adm g)) live) (CDin c), CDin-length c)
+    go : (b : Bool) → length (records (if b then tell (meet connections (hosts us (with seats adm g)) live) (CDin c) else [])) ≤ 112
+    go true = omega (arith, told-length (meet connections (hosts us (with seats adm g)) live) (CDin c), CDin-length c)
     go false = omega (arith, ap length records-none)
 
 pub ends-length : (us : Users) (cs : Channels) (gone live : ℕ) (ids : List ℕ) → length ids ≤ 128 → length (records (each (end-at us cs gone live) (inOrder ids))) ≤ 14336
@@ -133,7 +133,7 @@ module _ (us : Users) (gone k g r : ℕ) where
       omega (arith, sent-length (link us g) (TVcf no-such-user (name us g) k (status (lose gone (Giving g r)) g)), TVcf-length (name us g) k (status (lose gone (Giving g r)) g))
 
   pub refusal-put : {out o m : List ℕ} {at n : ℕ} (q result u s : ℕ) (h : Holding) → h ≡ lose gone (Giving g r) → result ≡ no-such-user → u ≡ name us g → s ≡ status h g
-      → q ≡ link us g → m ≡ wire (TVcf result u k s) → at ≤ 65535 → Puts out at (guarded at m (framed m q)) o n → Puts out at (records refusal) o n
+      → q ≡ link us g → m ≡ wire (TVcf result u k s) → at ≤ 65535 → Puts out at (guarded at m (record-of m q)) o n → Puts out at (records refusal) o n
   refusal-put {out} {o} {m} q result u s h a b c d e f l p =
       let z : m ≡ wire (TVcf no-such-user (name us g) k (status (lose gone (Giving g r)) g)) = f ∙ rw (b, c, d, a) refl in
       rw (← e) (put-sent _ m z l (omega (arith, ap length z, TVcf-length (name us g) k (status (lose gone (Giving g r)) g))) q p)

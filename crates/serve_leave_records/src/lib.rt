@@ -3,14 +3,15 @@ ghost use mathlib.Core.Path.{_≡_};
 ghost use mathlib.Core.List.{List, [], _∷_, _++_};
 ghost use Prim.Native.Nat.{ℕ, _+_, _-_, _<_, _≤_};
 ghost use lib.ListN.{length, take};
-ghost use Rattle.cols_spec.specs.Sets.{if_then_else_, each, marked};
+ghost use Rattle.cols_spec.specs.Sets.{if_then_else_, each, ids-above};
 ghost use Rattle.cols_spec.specs.Places.{next as nextIn, inOrder, picked};
 ghost use Rattle.codec_table.specs.Named.{TVcf, no-such-user};
 ghost use Rattle.out_records.specs.Records.{to, records as recordsOf};
 ghost use Rattle.out_records.specs.Out.{Puts};
 ghost use Rattle.domain.specs.declared.Limits.{Limits};
 ghost use Rattle.domain.specs.declared.token.Holding.the-variants.{Giving};
-ghost use Rattle.domain.specs.Tables.{users-of, channels-of, tokens-of, domain-of, name, link};
+ghost use Rattle.domain.specs.Tables.{name, link};
+ghost use Rattle.domain.specs.Lent.{channels-before, domain-before-with, tokens-before, users-before};
 ghost use Rattle.domain.specs.Tokens.{status as statusOf, lose as loseOf};
 ghost use Rattle.domain.specs.Leaving.{ended, returned, farewell as farewellOf};
 ghost use Rattle.serve_leave_records.specs.Parts.{parting, kind-at, ends-by, ends-there, end-at, return-at};
@@ -51,7 +52,7 @@ fn kind_of(
     joined: &[u16; 128],
     c: u16,
 ) -> Kind
-    ensures { λ r. ⌜ r ≡ kind-at (channels-of (now («channel_ids» .entry)) (now («channel_kinds» .entry)) (now (managers .entry)) (now (admitted .entry)) (now (joined .entry))) c ⌝ }
+    ensures { λ r. ⌜ r ≡ kind-at (channels-before «channel_ids» «channel_kinds» managers admitted joined) c ⌝ }
 {
     // How long the columns are: behind the last place a channel is blank.
     let n = channel_ids[..].len();
@@ -78,7 +79,7 @@ fn put_ended(
     k: Kind,
 ) -> usize
     requires { ⌜ at ≤ 65535 ⌝ }
-    ensures { λ r. ⌜ Puts (now (out .entry)) at (recordsOf (ended (users-of (now («user_ids» .entry)) (now («user_links» .entry))) gone live c k)) (now (out .exit)) r ⌝ }
+    ensures { λ r. ⌜ Puts (now (out .entry)) at (recordsOf (ended (users-before «user_ids» «user_links») gone live c k)) (now (out .exit)) r ⌝ }
 {
     match k {
         Kind::Private(g, guests) => {
@@ -162,7 +163,7 @@ fn find_ends(
 
 // The first number from `from` on that either mask has, the second from 64 on; 128 where there is none.
 fn next_mark(low: u64, high: u64, from: usize) -> usize
-    ensures { λ r. ⌜ ((xs : List ℕ) → low ≡ marked 1000 xs → high ≡ marked 1064 xs → NextMark xs from r) ⌝ }
+    ensures { λ r. ⌜ ((xs : List ℕ) → low ≡ ids-above 1000 xs → high ≡ ids-above 1064 xs → NextMark xs from r) ⌝ }
 {
     let q = cols_masks::next_in(low, from);
     if q < 64 {
@@ -207,8 +208,8 @@ fn put_ends(
     live: u16,
 ) -> usize
     requires { ⌜ from ≤ 4096 ⌝ }
-    ensures { λ r. ⌜ (Puts (now (out .entry)) from (recordsOf (each (end-at (users-of (now («user_ids» .entry)) (now («user_links» .entry)))
-        (channels-of (now («channel_ids» .entry)) (now («channel_kinds» .entry)) (now (managers .entry)) (now (admitted .entry)) (now (joined .entry))) gone live)
+    ensures { λ r. ⌜ (Puts (now (out .entry)) from (recordsOf (each (end-at (users-before «user_ids» «user_links»)
+        (channels-before «channel_ids» «channel_kinds» managers admitted joined) gone live)
         (inOrder (now («channel_ids» .entry))))) (now (out .exit)) r) × (r ≤ from + 14336) ⌝ }
 {
     let e = find_ends(channel_ids, channel_kinds, managers, gone);
@@ -243,8 +244,8 @@ fn put_any_ends(
     live: u16,
 ) -> usize
     requires { ⌜ from ≤ 4096 ⌝ }
-    ensures { λ r. ⌜ (Puts (now (out .entry)) from (recordsOf (each (end-at (users-of (now («user_ids» .entry)) (now («user_links» .entry)))
-        (channels-of (now («channel_ids» .entry)) (now («channel_kinds» .entry)) (now (managers .entry)) (now (admitted .entry)) (now (joined .entry))) gone live)
+    ensures { λ r. ⌜ (Puts (now (out .entry)) from (recordsOf (each (end-at (users-before «user_ids» «user_links»)
+        (channels-before «channel_ids» «channel_kinds» managers admitted joined) gone live)
         (inOrder (now («channel_ids» .entry))))) (now (out .exit)) r) × (r ≤ from + 14336) ⌝ }
 {
     if cols_walk::any_is(channel_kinds, 3) {
@@ -277,8 +278,8 @@ fn put_refusal(
     r: u8,
 ) -> usize
     requires { ⌜ at ≤ 65535 ⌝ }
-    ensures { λ n. ⌜ Puts (now (out .entry)) at (recordsOf (to (link (users-of (now («user_ids» .entry)) (now («user_links» .entry))) g)
-        (TVcf no-such-user (name (users-of (now («user_ids» .entry)) (now («user_links» .entry))) g) k (statusOf (loseOf gone (Giving g r)) g)) ∷ [])) (now (out .exit)) n ⌝ }
+    ensures { λ n. ⌜ Puts (now (out .entry)) at (recordsOf (to (link (users-before «user_ids» «user_links») g)
+        (TVcf no-such-user (name (users-before «user_ids» «user_links») g) k (statusOf (loseOf gone (Giving g r)) g)) ∷ [])) (now (out .exit)) n ⌝ }
 {
     let h = domain_state::token::lose(gone, Holding::Giving(g, r));
     let s = domain_state::numbers::status_number(domain_state::token::status(h, g));
@@ -304,7 +305,7 @@ fn put_returned(
     h: Holding,
 ) -> usize
     requires { ⌜ at ≤ 65535 ⌝ }
-    ensures { λ r. ⌜ Puts (now (out .entry)) at (recordsOf (returned (users-of (now («user_ids» .entry)) (now («user_links» .entry))) gone k h)) (now (out .exit)) r ⌝ }
+    ensures { λ r. ⌜ Puts (now (out .entry)) at (recordsOf (returned (users-before «user_ids» «user_links») gone k h)) (now (out .exit)) r ⌝ }
 {
     match h {
         Holding::Giving(g, r) => {
@@ -335,8 +336,8 @@ fn put_returns(
     gone: u64,
 ) -> usize
     requires { ⌜ from ≤ 32768 ⌝ }
-    ensures { λ r. ⌜ Puts (now (out .entry)) from (recordsOf (each (return-at (users-of (now («user_ids» .entry)) (now («user_links» .entry)))
-        (tokens-of (now («token_ids» .entry)) (now («token_states» .entry)) (now («token_values» .entry))) gone) (inOrder (now («token_ids» .entry))))) (now (out .exit)) r ⌝ }
+    ensures { λ r. ⌜ Puts (now (out .entry)) from (recordsOf (each (return-at (users-before «user_ids» «user_links»)
+        (tokens-before «token_ids» «token_states» «token_values») gone) (inOrder (now («token_ids» .entry))))) (now (out .exit)) r ⌝ }
 {
     let mut at = from;
     let mut low: u16 = 0;
@@ -366,8 +367,8 @@ fn put_any_returns(
     gone: u64,
 ) -> usize
     requires { ⌜ from ≤ 32768 ⌝ }
-    ensures { λ r. ⌜ Puts (now (out .entry)) from (recordsOf (each (return-at (users-of (now («user_ids» .entry)) (now («user_links» .entry)))
-        (tokens-of (now («token_ids» .entry)) (now («token_states» .entry)) (now («token_values» .entry))) gone) (inOrder (now («token_ids» .entry))))) (now (out .exit)) r ⌝ }
+    ensures { λ r. ⌜ Puts (now (out .entry)) from (recordsOf (each (return-at (users-before «user_ids» «user_links»)
+        (tokens-before «token_ids» «token_states» «token_values») gone) (inOrder (now («token_ids» .entry))))) (now (out .exit)) r ⌝ }
 {
     if cols_walk::any_is(token_states, 3) {
         return put_returns(
@@ -403,9 +404,7 @@ pub fn farewell(
     list: &[u16; 64],
     count: usize,
 ) -> usize
-    ensures { λ r. ⌜ ((l : Limits) → (links : ℕ) → Puts (now (out .entry)) 0 (recordsOf (farewellOf (domain-of l links (now («user_ids» .entry)) (now («user_links» .entry))
-        (now («channel_ids» .entry)) (now («channel_kinds» .entry)) (now (managers .entry)) (now (admitted .entry)) (now (joined .entry))
-        (now («token_ids» .entry)) (now («token_states» .entry)) (now («token_values» .entry))) gone live reason (take count (now (list .entry))))) (now (out .exit)) r) ⌝ }
+    ensures { λ r. ⌜ ((l : Limits) → (links : ℕ) → Puts (now (out .entry)) 0 (recordsOf (farewellOf (domain-before-with l links «user_ids» «user_links» «channel_ids» «channel_kinds» managers admitted joined «token_ids» «token_states» «token_values») gone live reason (take count (now (list .entry))))) (now (out .exit)) r) ⌝ }
 {
     let a = put_first(out, live, reason, list, count);
     let b = put_any_ends(

@@ -9,19 +9,19 @@ use borrow.Author.Tests.{eqb-true, ne-eqb}
 use lib.Dec.{eqb}
 use lib.ListN.{length, getD, set}
 use lib.Seq.{set-getD}
-use Rattle.cols_spec.specs.Sets.{if_then_else_, member, has, meet, links}
+use Rattle.cols_spec.specs.Sets.{if_then_else_, member, has, meet, connections}
 use Rattle.cols_spec.specs.Swept.{Turns, anywhere}
 use Rattle.cols_spec.proofs.Sweeps.{Sweeps, sweeps-start}
 use Rattle.domain.specs.declared.channel.Channel.{Channel}
 use Rattle.domain.specs.Cells.{no-channel, kind, with-marks, with-guests}
-use Rattle.domain.specs.Tables.{Users, channels-of, channel-cells, end-channel, lapses, marked}
-use Rattle.domain.specs.Channels.{private}
+use Rattle.domain.specs.Tables.{Users, channels-of, channel-cells, end-channel, lapses, narrowed}
+use Rattle.domain.specs.Channels.{private-marks}
 use Rattle.domain.proofs.CellLaws.{channel, channel-at, channel-set}
 use Rattle.domain_tables.proofs.ChannelSweeps.{channel-ends, channel-stays, channel-count}
-use Rattle.serve_leave_tables.specs.Fates.{fate-of, fate-by, ends-by, guests-left, marks-left}
+use Rattle.serve_leave_tables.specs.Fates.{fate-listed, fate-by, ends-by, guests-left, marks-left}
 
 -- ---- one channel: it ends where the test says so, and else has what is left of it
-module _ (us : Users) (list : List ℕ) (gone live c role chair guests marks m : ℕ) (e : m ≡ meet links marks live) where
+module _ (us : Users) (list : List ℕ) (gone live c role chair guests marks m : ℕ) (e : m ≡ meet connections marks live) where
   abbrev kept : Channel
   kept = channel role chair (guests-left role guests gone) (marks-left us role chair (guests-left role guests gone) m)
 
@@ -29,7 +29,7 @@ module _ (us : Users) (list : List ℕ) (gone live c role chair guests marks m :
   Fated = fate-by us list gone live c (channel role chair guests marks) ≡ (if ends-by role chair (member c list) gone m then none else some kept)
 
   fated-user : eqb role 2 ≡ true → eqb role 3 ≡ false → Fated
-  unfolding fate-by fate-of kind marked lapses with-marks ends-by guests-left marks-left
+  unfolding fate-by fate-listed kind narrowed lapses with-marks ends-by guests-left marks-left
   fated-user a b = go (member c list) refl
     where
       go : (l : Bool) → member c list ≡ l → Fated
@@ -37,7 +37,7 @@ module _ (us : Users) (list : List ℕ) (gone live c role chair guests marks m :
       go false q = rw (a, b, q, a, e) refl
 
   fated-private : eqb role 2 ≡ false → eqb role 3 ≡ true → Fated
-  unfolding fate-by fate-of kind private with-guests ends-by guests-left marks-left
+  unfolding fate-by fate-listed kind private-marks with-guests ends-by guests-left marks-left
   fated-private a b = go (has gone chair) refl
     where
       go : (h : Bool) → has gone chair ≡ h → Fated
@@ -45,7 +45,7 @@ module _ (us : Users) (list : List ℕ) (gone live c role chair guests marks m :
       go false q = rw (a, b, q, e) refl
 
   fated-other : eqb role 2 ≡ false → eqb role 3 ≡ false → Fated
-  unfolding fate-by fate-of kind marked lapses with-marks ends-by guests-left marks-left
+  unfolding fate-by fate-listed kind narrowed lapses with-marks ends-by guests-left marks-left
   fated-other a b = go (eqb role 4) refl
     where
       go : (q : Bool) → eqb role 4 ≡ q → Fated
@@ -71,7 +71,7 @@ ends-alike role chair a b gone m l = go (eqb role 2) refl
 
 -- ---- its place, as the code stores it
 module _ (us : Users) (list : List ℕ) (gone live j : ℕ) (ids rs cs gs ms : List ℕ) (n : getD ids j 0 ≡ 0 → ⊥)
-    (a : j < length rs) (b : j < length cs) (d : j < length gs) (f : j < length ms) (m : ℕ) (e : m ≡ meet links (getD ms j 0) live)
+    (a : j < length rs) (b : j < length cs) (d : j < length gs) (f : j < length ms) (m : ℕ) (e : m ≡ meet connections (getD ms j 0) live)
     (listed ends : Bool) (l : getD rs j 0 ≡ 2 → listed ≡ member (getD ids j 0) list) (t : ends ≡ ends-by (getD rs j 0) (getD cs j 0) listed gone m) where
   -- what is left: the admitted and the connections
   abbrev admitted : ℕ

@@ -2,16 +2,17 @@
 ghost use mathlib.Core.Path.{_≡_};
 ghost use Prim.Native.Nat.{_<_};
 ghost use lib.ListN.{getD, set};
-ghost use Rattle.cols_spec.specs.Sets.{member, marked, with, meet, links, seats};
+ghost use Rattle.cols_spec.specs.Sets.{member, ids-above, with, meet, connections, seats};
 ghost use Rattle.cols_spec.specs.Swept.{Turns, anywhere};
 ghost use Rattle.domain.specs.Cells.{no-channel};
-ghost use Rattle.domain.specs.Tables.{users-of, hosts, channels-of, channel-cells, sweep-channels};
+ghost use Rattle.domain.specs.Tables.{hosts, channel-cells, sweep-channels};
+ghost use Rattle.domain.specs.Lent.{channels-after, channels-before, users-before};
 ghost use Rattle.serve_leave_tables.specs.Fates.{fate-by, ends-by, guests-left, marks-left};
 
 // Channel c is the user's id of one of those listed. Most ids are among the 64 that have a mark; another is looked for only where the channel
 // is a user's, role 2, since no other ends by its id.
 fn is_listed(low: u64, list: &[u16], role: u8, c: u16) -> bool
-    requires { ⌜ low ≡ marked 1000 (now list) ⌝ }
+    requires { ⌜ low ≡ ids-above 1000 (now list) ⌝ }
     ensures { λ r. ⌜ (role ≡ 2 → r ≡ member c (now (list .entry))) ⌝ }
 {
     if (1000 < c) & (c < 1065) {
@@ -35,7 +36,7 @@ fn ends(role: u8, chair: u8, listed: bool, gone: u64, m: u16) -> bool
 
 // The connections of a channel that stays: a private one's only with the manager or an admitted user. Where none is joined none is sought.
 fn links_left(user_ids: &[u16; 64], user_links: &[u8; 64], chair: u8, guests: u64, m: u16) -> u16
-    ensures { λ r. ⌜ r ≡ meet links m (hosts (users-of (now («user_ids» .entry)) (now («user_links» .entry))) (with seats guests chair)) ⌝ }
+    ensures { λ r. ⌜ r ≡ meet connections m (hosts (users-before «user_ids» «user_links») (with seats guests chair)) ⌝ }
 {
     if m == 0 {
         return 0;
@@ -61,7 +62,7 @@ fn stay(
     requires { ⌜ j < 128 ⌝ }
     ensures { λ _. ⌜ (now (admitted .exit) ≡ set (now (admitted .entry)) j (guests-left role (getD (now (admitted .entry)) j 0) gone))
         × (now (joined .exit) ≡ set (now (joined .entry)) j
-        (marks-left (users-of (now («user_ids» .entry)) (now («user_links» .entry))) role (getD (now (managers .entry)) j 0) (guests-left role (getD (now (admitted .entry)) j 0) gone) m)) ⌝ }
+        (marks-left (users-before «user_ids» «user_links») role (getD (now (managers .entry)) j 0) (guests-left role (getD (now (admitted .entry)) j 0) gone) m)) ⌝ }
 {
     if role == 3 {
         let let_in = cols_masks::other_seats(admitted[j], gone);
@@ -87,8 +88,8 @@ fn leave_place(
     live: u16,
     j: usize,
 )
-    requires { ⌜ (j < 128) × (low ≡ marked 1000 (now list)) ⌝ }
-    ensures { λ _. ⌜ Turns no-channel (anywhere (fate-by (users-of (now («user_ids» .entry)) (now («user_links» .entry))) (now (list .entry)) gone live)) j
+    requires { ⌜ (j < 128) × (low ≡ ids-above 1000 (now list)) ⌝ }
+    ensures { λ _. ⌜ Turns no-channel (anywhere (fate-by (users-before «user_ids» «user_links») (now (list .entry)) gone live)) j
         (now («channel_ids» .entry)) (channel-cells (now («channel_kinds» .entry)) (now (managers .entry)) (now (admitted .entry)) (now (joined .entry)))
         (now («channel_ids» .exit)) (channel-cells (now («channel_kinds» .exit)) (now (managers .exit)) (now (admitted .exit)) (now (joined .exit))) ⌝ }
 {
@@ -140,9 +141,9 @@ pub fn leave(
     gone: u64,
     live: u16,
 )
-    ensures { λ _. ⌜ channels-of (now («channel_ids» .exit)) (now («channel_kinds» .exit)) (now (managers .exit)) (now (admitted .exit)) (now (joined .exit))
-        ≡ sweep-channels (fate-by (users-of (now («user_ids» .entry)) (now («user_links» .entry))) (now (list .entry)) gone live)
-        (channels-of (now («channel_ids» .entry)) (now («channel_kinds» .entry)) (now (managers .entry)) (now (admitted .entry)) (now (joined .entry))) ⌝ }
+    ensures { λ _. ⌜ channels-after «channel_ids» «channel_kinds» managers admitted joined
+        ≡ sweep-channels (fate-by (users-before «user_ids» «user_links») (now (list .entry)) gone live)
+        (channels-before «channel_ids» «channel_kinds» managers admitted joined) ⌝ }
 {
     let low = cols_walk::id_marks(list);
     // How long the columns are: what the loop keeps.

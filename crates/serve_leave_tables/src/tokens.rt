@@ -3,7 +3,8 @@ ghost use mathlib.Core.Path.{_≡_};
 ghost use Prim.Native.Nat.{_<_};
 ghost use Rattle.cols_spec.specs.Swept.{Turns};
 ghost use Rattle.domain.specs.Cells.{no-token};
-ghost use Rattle.domain.specs.Tables.{tokens-of, token-cells, sweep-tokens};
+ghost use Rattle.domain.specs.Tables.{token-cells, sweep-tokens};
+ghost use Rattle.domain.specs.Lent.{tokens-after, tokens-before};
 ghost use Rattle.domain.specs.Tokens.{lose};
 ghost use Rattle.serve_leave_tables.specs.Fates.{loses};
 use domain::token::Token;
@@ -48,8 +49,8 @@ pub fn leave(
     token_values: &mut [u64; 64],
     gone: u64,
 )
-    ensures { λ _. ⌜ tokens-of (now («token_ids» .exit)) (now («token_states» .exit)) (now («token_values» .exit))
-        ≡ sweep-tokens (lose gone) (tokens-of (now («token_ids» .entry)) (now («token_states» .entry)) (now («token_values» .entry))) ⌝ }
+    ensures { λ _. ⌜ tokens-after «token_ids» «token_states» «token_values»
+        ≡ sweep-tokens (lose gone) (tokens-before «token_ids» «token_states» «token_values») ⌝ }
 {
     // How long the columns are: what the loop keeps.
     let n = token_ids[..].len();

@@ -2,7 +2,8 @@
 ghost use mathlib.Core.Path.{_≡_};
 ghost use Prim.Native.Nat.{_<_};
 ghost use Rattle.cols_spec.specs.Swept.{Turns};
-ghost use Rattle.domain.specs.Tables.{users-of, remove-users};
+ghost use Rattle.domain.specs.Tables.{remove-users};
+ghost use Rattle.domain.specs.Lent.{users-after, users-before};
 ghost use Rattle.serve_leave_tables.specs.Fates.{ends};
 
 // The user at place j leaves; a free place stays as it is.
@@ -19,7 +20,7 @@ fn leave_place(user_ids: &mut [u16; 64], user_links: &mut [u8; 64], j: usize)
 
 // The users at the places of a mask leave.
 pub fn leave(user_ids: &mut [u16; 64], user_links: &mut [u8; 64], gone: u64)
-    ensures { λ _. ⌜ users-of (now («user_ids» .exit)) (now («user_links» .exit)) ≡ remove-users (users-of (now («user_ids» .entry)) (now («user_links» .entry))) gone ⌝ }
+    ensures { λ _. ⌜ users-after «user_ids» «user_links» ≡ remove-users (users-before «user_ids» «user_links») gone ⌝ }
 {
     // How long the columns are: what the loop keeps.
     let n = user_ids[..].len();

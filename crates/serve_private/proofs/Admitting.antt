@@ -11,7 +11,7 @@ use Rattle.out_records.specs.Records.{Sent, records}
 use Rattle.domain.specs.declared.channel.Channel.{Channel}
 use Rattle.domain.specs.Cells.{no-channel}
 use Rattle.domain.specs.Tables.{Users, Channels, channel, set-channel}
-use Rattle.domain.specs.Effects.{Effect, ignored, done, Settled, settled, sends, settle}
+use Rattle.domain.specs.Effects.{Effect, ignored, done, Settled, settled, delivers, settle}
 use Rattle.domain.specs.Channels.{manages, places, own, attached-of, admitted-of, admit, expel}
 use Rattle.serve_private_tell.specs.declared.Pick.{Pick}
 use Rattle.serve_private_tell.specs.declared.Say.{Say}

@@ -16,7 +16,7 @@ use Rattle.domain.specs.declared.channel.Kind.the-variants.{Static, User, Priva
 use Rattle.domain.specs.declared.channel.Channel.{Channel}
 use Rattle.domain.specs.Cells.{no-channel, kind, channel-of}
 use Rattle.domain.specs.Tables.{Users, Channels, attached, hosts, channel, add-channel, end-channel}
-use Rattle.domain.specs.Effects.{Effect, ignored, done, Settled, settled, sends, settle, from}
+use Rattle.domain.specs.Effects.{Effect, ignored, done, Settled, settled, delivers, settle, from}
 use Rattle.domain.specs.Channels.{convene, owned, manages, disband}
 use Rattle.serve_reply.proofs.Sending.{Told, did-nothing, did-refuse, did}
 use Rattle.serve_reply.proofs.Initiators.{from-at, from-nobody}
@@ -104,7 +104,7 @@ module _ (us : Users) (cs : Channels) (p u c : ℕ) (out : List ℕ) where
 
   module _ (j : ℕ) (h : (act : ℕ → ℕ → ℕ → Effect Channels) → manages us cs p u c act ≡ act j (channel cs j .chair) (channel cs j .guests))
       (ch : Channel) (x : ch ≡ getD (cs .cells) j no-channel) (mask : ℕ) (y : mask ≡ hosts us (with seats (ch .guests) (ch .chair)))
-      (n l : ℕ) (o : List ℕ) (e : settled {A = Unit {0}} n l tt o ≡ sends 0 tt tt (tell mask (CDin c)) out) where
+      (n l : ℕ) (o : List ℕ) (e : settled {A = Unit {0}} n l tt o ≡ delivers 0 tt tt (tell mask (CDin c)) out) where
     ends : done (end-channel cs j) (tell mask (CDin c)) ≡ disband us cs p u c
     unfolding disband channel
     ends = rw (y, x) (sym (h _))

@@ -6,7 +6,7 @@ use Rattle.domain.specs.declared.channel.Channel.{Channel}
 use Rattle.domain.specs.Cells.{with-guests}
 use Rattle.domain.specs.Tables.{Users, Channels, channel, set-channel}
 use Rattle.domain.specs.Effects.{Effect}
-use Rattle.domain.specs.Channels.{places, private}
+use Rattle.domain.specs.Channels.{places, private-marks}
 use Rattle.serve_private_tell.specs.declared.Pick.{Pick}
 use Rattle.serve_private_tell.specs.declared.Pick.the-variants.{Attached, Admitted}
 use Rattle.serve_private_tell.specs.declared.Say.{Say}
@@ -20,7 +20,7 @@ picks (Expels c) adm = Admitted adm
 
 unfoldable pub changed : (us : Users) (say : Say) (ch : Channel) (mask : ℕ) → Channel
 changed us (Admits u c) ch mask = with-guests ch (union seats (ch .guests) mask) (ch .marks)
-changed us (Expels c) ch mask = private us ch (ch .chair) (minus seats (ch .guests) mask) (ch .marks)
+changed us (Expels c) ch mask = private-marks us ch (ch .chair) (minus seats (ch .guests) mask) (ch .marks)
 
 -- all of it, for the channel at place j
 unfoldable pub changes : (us : Users) (cs : Channels) (j : ℕ) (say : Say) (ids : List ℕ) → Effect Channels

@@ -7,7 +7,8 @@ ghost use lib.Dec.{eqb};
 ghost use lib.ListN.{take};
 ghost use Rattle.cols_spec.specs.Sets.{if_then_else_, with, seats};
 ghost use Rattle.domain.specs.Cells.{kind};
-ghost use Rattle.domain.specs.Tables.{Channels, users-of, channels-of, channel, hosts as hostsOf, at-limit, grant};
+ghost use Rattle.domain.specs.Tables.{Channels, channel, hosts as hostsOf, at-limit, grant};
+ghost use Rattle.domain.specs.Lent.{channels-after, channels-after-with, channels-before, channels-before-with, users-before};
 ghost use Rattle.domain.specs.Numbers.{replyNumber};
 ghost use Rattle.domain.specs.Effects.{Effect, ignored as ignoredBy, settle, answered};
 ghost use Rattle.domain.specs.Channels.{convene as conveneOf, owned, manages, disband as disbandOf, admit as admitOf, expel as expelOf};
@@ -35,11 +36,9 @@ pub fn convene(
     u: u16,
     out: &mut [u8],
 ) -> Answer
-    ensures { λ r. ⌜ answered r (channels-of (now («channel_ids» .exit)) (now («channel_kinds» .exit)) (now (managers .exit)) (now (admitted .exit)) (now (joined .exit))) (now (out .exit))
-        ≡ settle (channels-of (now («channel_ids» .entry)) (now («channel_kinds» .entry)) (now (managers .entry)) (now (admitted .entry)) (now (joined .entry)))
-        (conveneOf (grant (channels-of (now («channel_ids» .entry)) (now («channel_kinds» .entry)) (now (managers .entry)) (now (admitted .entry)) (now (joined .entry)))) (at-limit limit (now («channel_ids» .entry))) (users-of (now («user_ids» .entry)) (now («user_links» .entry)))
-        (channels-of (now («channel_ids» .entry)) (now («channel_kinds» .entry)) (now (managers .entry)) (now (admitted .entry)) (now (joined .entry))) p u)
-        (now (out .entry)) ⌝ }
+    ensures { λ r. ⌜ (let cs = channels-before «channel_ids» «channel_kinds» managers admitted joined in
+        answered r (channels-after «channel_ids» «channel_kinds» managers admitted joined) (now (out .exit))
+        ≡ settle cs (conveneOf (grant cs) (at-limit limit (cs .ids)) (users-before «user_ids» «user_links») cs p u) (now (out .entry))) ⌝ }
 {
     let i = serve_reply::initiator(user_ids, user_links, p, u);
     if 64 <= i {
@@ -93,9 +92,10 @@ fn managed(
     u: u16,
     c: u16,
 ) -> usize
-    ensures { λ r. ⌜ (r < 128 → (act : (ℕ → ℕ → ℕ → Effect Channels)) → manages (users-of (now («user_ids» .entry)) (now («user_links» .entry))) (channels-of (now («channel_ids» .entry)) (now («channel_kinds» .entry)) (now (managers .entry)) (now (admitted .entry)) (now (joined .entry))) p u c act
-        ≡ act r (channel (channels-of (now («channel_ids» .entry)) (now («channel_kinds» .entry)) (now (managers .entry)) (now (admitted .entry)) (now (joined .entry))) r .chair) (channel (channels-of (now («channel_ids» .entry)) (now («channel_kinds» .entry)) (now (managers .entry)) (now (admitted .entry)) (now (joined .entry))) r .guests))
-        × (128 ≤ r → (act : (ℕ → ℕ → ℕ → Effect Channels)) → manages (users-of (now («user_ids» .entry)) (now («user_links» .entry))) (channels-of (now («channel_ids» .entry)) (now («channel_kinds» .entry)) (now (managers .entry)) (now (admitted .entry)) (now (joined .entry))) p u c act ≡ ignoredBy) ⌝ }
+    ensures { λ r. ⌜ (let us = users-before «user_ids» «user_links» in
+        let cs = channels-before «channel_ids» «channel_kinds» managers admitted joined in
+        (r < 128 → (act : (ℕ → ℕ → ℕ → Effect Channels)) → manages us cs p u c act ≡ act r (channel cs r .chair) (channel cs r .guests))
+        × (128 ≤ r → (act : (ℕ → ℕ → ℕ → Effect Channels)) → manages us cs p u c act ≡ ignoredBy)) ⌝ }
 {
     let i = serve_reply::initiator(user_ids, user_links, p, u);
     if 64 <= i {
@@ -113,7 +113,7 @@ fn managed(
 
 // The connections with the manager or an admitted user.
 fn homes_of(user_ids: &[u16; 64], user_links: &[u8; 64], chair: u8, guests: u64) -> u16
-    ensures { λ r. ⌜ r ≡ hostsOf (users-of (now («user_ids» .entry)) (now («user_links» .entry))) (with seats guests chair) ⌝ }
+    ensures { λ r. ⌜ r ≡ hostsOf (users-before «user_ids» «user_links») (with seats guests chair) ⌝ }
 {
     domain_tables::users::hosts(user_ids, user_links, cols_masks::with_seat(guests, chair))
 }
@@ -132,10 +132,9 @@ pub fn disband(
     c: u16,
     out: &mut [u8],
 ) -> Answer
-    ensures { λ r. ⌜ answered r (channels-of (now («channel_ids» .exit)) (now («channel_kinds» .exit)) (now (managers .exit)) (now (admitted .exit)) (now (joined .exit))) (now (out .exit))
-        ≡ settle (channels-of (now («channel_ids» .entry)) (now («channel_kinds» .entry)) (now (managers .entry)) (now (admitted .entry)) (now (joined .entry)))
-        (disbandOf (users-of (now («user_ids» .entry)) (now («user_links» .entry))) (channels-of (now («channel_ids» .entry)) (now («channel_kinds» .entry)) (now (managers .entry)) (now (admitted .entry)) (now (joined .entry))) p u c)
-        (now (out .entry)) ⌝ }
+    ensures { λ r. ⌜ (let cs = channels-before «channel_ids» «channel_kinds» managers admitted joined in
+        answered r (channels-after «channel_ids» «channel_kinds» managers admitted joined) (now (out .exit))
+        ≡ settle cs (disbandOf (users-before «user_ids» «user_links») cs p u c) (now (out .entry))) ⌝ }
 {
     let j = managed(
         user_ids,
@@ -181,7 +180,7 @@ fn with_change(
     ch: Channel,
     seats: u64,
 ) -> Channel
-    ensures { λ r. ⌜ r ≡ changed (users-of (now («user_ids» .entry)) (now («user_links» .entry))) s ch seats ⌝ }
+    ensures { λ r. ⌜ r ≡ changed (users-before «user_ids» «user_links») s ch seats ⌝ }
 {
     match s {
         Say::Admits(_, _) => Channel {
@@ -225,9 +224,9 @@ fn change(
     count: usize,
     out: &mut [u8],
 ) -> Answer
-    ensures { λ r. ⌜ ((ids : List ℕ) → answered r (channels-of ids (now («channel_kinds» .exit)) (now (managers .exit)) (now (admitted .exit)) (now (joined .exit))) (now (out .exit))
-        ≡ settle (channels-of ids (now («channel_kinds» .entry)) (now (managers .entry)) (now (admitted .entry)) (now (joined .entry)))
-        (changes (users-of (now («user_ids» .entry)) (now («user_links» .entry))) (channels-of ids (now («channel_kinds» .entry)) (now (managers .entry)) (now (admitted .entry)) (now (joined .entry))) j s (take count (now (listed .entry))))
+    ensures { λ r. ⌜ ((ids : List ℕ) → answered r (channels-after-with ids «channel_kinds» managers admitted joined) (now (out .exit))
+        ≡ settle (channels-before-with ids «channel_kinds» managers admitted joined)
+        (changes (users-before «user_ids» «user_links») (channels-before-with ids «channel_kinds» managers admitted joined) j s (take count (now (listed .entry))))
         (now (out .entry))) ⌝ }
 {
     let ch = domain_tables::channels::channel_at(channel_kinds, managers, admitted, joined, j);
@@ -268,11 +267,9 @@ pub fn revise(
     count: usize,
     out: &mut [u8],
 ) -> Answer
-    ensures { λ r. ⌜ answered r (channels-of (now («channel_ids» .entry)) (now («channel_kinds» .exit)) (now (managers .exit)) (now (admitted .exit)) (now (joined .exit))) (now (out .exit))
-        ≡ settle (channels-of (now («channel_ids» .entry)) (now («channel_kinds» .entry)) (now (managers .entry)) (now (admitted .entry)) (now (joined .entry)))
-        ((if admits then admitOf else expelOf) (users-of (now («user_ids» .entry)) (now («user_links» .entry))) (channels-of (now («channel_ids» .entry)) (now («channel_kinds» .entry)) (now (managers .entry)) (now (admitted .entry)) (now (joined .entry))) p u c
-        (take count (now (listed .entry))))
-        (now (out .entry)) ⌝ }
+    ensures { λ r. ⌜ (let cs = channels-before «channel_ids» «channel_kinds» managers admitted joined in
+        answered r (channels-after-with (cs .ids) «channel_kinds» managers admitted joined) (now (out .exit))
+        ≡ settle cs ((if admits then admitOf else expelOf) (users-before «user_ids» «user_links») cs p u c (take count (now (listed .entry)))) (now (out .entry))) ⌝ }
 {
     let j = managed(
         user_ids,

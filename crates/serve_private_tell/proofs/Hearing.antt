@@ -9,12 +9,12 @@ use native.Mathlib.Omega.{arith}
 use lib.Dec.{eqb}
 use lib.ListN.{length, take, drop, getD, length-take, length-append, take-append-drop, drop-of-length-le}
 use lib.Seq.{drop-cons}
-use Rattle.cols_spec.specs.Sets.{if_then_else_, keep, null, each, below, links}
+use Rattle.cols_spec.specs.Sets.{if_then_else_, keep, null, each, below, connections}
 use Rattle.cols_spec.specs.Places.{found}
 use Rattle.cols_spec.proofs.Order.{keep-le}
 use Rattle.cols_spec.proofs.Turns.{keep-append}
 use Rattle.codec_table.specs.Named.{Message, CAin, CEin}
-use Rattle.out_records.specs.Records.{Sent, to, wire, two, framed, records}
+use Rattle.out_records.specs.Records.{Sent, to, wire, two, record-of, records}
 use Rattle.out_records.specs.Out.{Puts, guarded, each-two}
 use Rattle.out_records.proofs.Laying.{Onward, put-none, put-then, guarded-in, ids-length}
 use Rattle.out_records.proofs.Telling.{run, below-run, records-append, records-none, records-one, put-nobody, sent-length}
@@ -41,7 +41,7 @@ module _ {s : List ℕ} {at : ℕ} (os : List ℕ) {t : List ℕ} {n : ℕ} (few
   begun = rw (guarded-in at os os room (omega arith)) at p
 
   pub begins : (say : Say) (f : List ℕ → Message) → ((ids : List ℕ) → says say ids ≡ f ids) → (q k : ℕ)
-      → ((ids : List ℕ) → length ids ≡ k → length ids ≤ 64 → framed (wire (f ids)) q ≡ os ++ each-two 1001 ids) → Begins s at say q k t n
+      → ((ids : List ℕ) → length ids ≡ k → length ids ≤ 64 → record-of (wire (f ids)) q ≡ os ++ each-two 1001 ids) → Begins s at say q k t n
   begins say f same q k whole ids e h u m r = rw (same ids, whole ids e (omega arith)) (put-then begun r)
 
   pub begins-most : n ≤ at + 10
@@ -60,7 +60,7 @@ module _ (us : Users) (ids : List ℕ) (say : List ℕ → Message) (q : ℕ) wh
   unfolding null
   own-silent e s at = rw (owns [] (sym (none-of (owned-by us q ids) e))) (put-nobody s at)
 
-  pub own-heard : (length (owned-by us q ids) ≡ 0 → ⊥) → records (own-to us ids say q) ≡ framed (wire (say (owned-by us q ids))) q
+  pub own-heard : (length (owned-by us q ids) ≡ 0 → ⊥) → records (own-to us ids say q) ≡ record-of (wire (say (owned-by us q ids))) q
   unfolding null
   own-heard z = ap records (owns (owned-by us q ids) refl ∙ some (owned-by us q ids) z) ∙ records-one q (say (owned-by us q ids))
     where

@@ -10,7 +10,7 @@ use borrow.Author.Tests.{eqb-true, eqb-false, ne-eqb}
 use lib.Dec.{eqb}
 use lib.ListN.{length, getD, set, take, replicate, length-append, getD-replicate, List·getD-append}
 use lib.Seq.{length-take-le, take-suc, take-suc-set, take-all, take-append-le, getD-append-seam, getD-set-same, getD-set-other}
-use Rattle.cols_spec.specs.Sets.{if_then_else_, keep, member, firsts as firsts-of, once, has, with, links, seats}
+use Rattle.cols_spec.specs.Sets.{if_then_else_, keep, member, firsts as firsts-of, once, has, with, connections, seats}
 use Rattle.cols_spec.specs.Places.{Place, At, Nowhere, find, found, number}
 use Rattle.cols_spec.proofs.Order.{keep-le}
 use Rattle.cols_spec.proofs.Turns.{keep-append}
@@ -38,7 +38,7 @@ module _ (us : Users) (v : ℕ) where
   picked-nowhere (Admitted adm) e = ap (by adm) e
 
   abbrev at : Place → ℕ
-  at w = elim w [ At i ↦ link us i | Nowhere ↦ links ]
+  at w = elim w [ At i ↦ link us i | Nowhere ↦ connections ]
 
   home-at : (i : ℕ) → find (us .ids) v ≡ At i → home us v ≡ link us i
   unfolding home
@@ -57,7 +57,7 @@ module _ (us : Users) (v : ℕ) where
 
       go : (w : Place) → eqb (at w) q ≡ found (on q w)
       go (At i) = tested (eqb (link us i) q) i
-      go Nowhere = ne-eqb links q (λ e. omega arith)
+      go Nowhere = ne-eqb connections q (λ e. omega arith)
 
 -- ---- one more at the end
 keep-last : (f : ℕ → Bool) (xs : List ℕ) (x : ℕ) → keep f (xs ++ x ∷ []) ≡ keep f xs ++ (if f x then x ∷ [] else [])

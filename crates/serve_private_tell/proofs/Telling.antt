@@ -9,7 +9,7 @@ use lib.ListN.{length, take, drop}
 use Rattle.cols_spec.specs.Sets.{if_then_else_, null}
 use Rattle.out_records.specs.Records.{Sent, records}
 use Rattle.domain.specs.Tables.{Users}
-use Rattle.domain.specs.Effects.{ignored, done, Settled, settled, sends, settle}
+use Rattle.domain.specs.Effects.{ignored, done, Settled, settled, delivers, settle}
 use Rattle.domain.specs.Channels.{places, own}
 use Rattle.serve_private_tell.specs.declared.Pick.{Pick}
 use Rattle.serve_private_tell.specs.declared.Say.{Say}
@@ -43,7 +43,7 @@ module _ (us : Users) (say : Say) (list out : List ℕ) where
   unfolding settle
   tells-nobody e = rw e refl
 
-  pub tells-some : null list ≡ false → {n k : ℕ} {o : List ℕ} → settled {A = Unit {0}} n k tt o ≡ sends 0 tt tt (own us list (says say)) out → settled {A = Unit {0}} n k tt o ≡ settle tt (tells us say list tt) out
+  pub tells-some : null list ≡ false → {n k : ℕ} {o : List ℕ} → settled {A = Unit {0}} n k tt o ≡ delivers 0 tt tt (own us list (says say)) out → settled {A = Unit {0}} n k tt o ≡ settle tt (tells us say list tt) out
   unfolding settle
   tells-some e p = rw e p
 
@@ -53,7 +53,7 @@ module _ (us : Users) (say : Say) (list out : List ℕ) where
     answer x = settled (x .reply) (x .sent) (if eqb (x .reply) 0 then after else before) (x .room)
 
     told : answer (settled n k tt o) ≡ settle before (tells us say list after) out
-    unfolding settle sends
+    unfolding settle delivers
     told = ap answer e ∙ carry (null list) (own us list (says say))
       where
         carry : (b : Bool) (rs : List Sent) → answer (settle tt (if b then ignored else done tt rs) out) ≡ settle before (if b then ignored else done after rs) out

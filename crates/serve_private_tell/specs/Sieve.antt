@@ -5,10 +5,10 @@ use mathlib.Core.Bool.{Bool, true, false}
 use mathlib.Core.List.{List, [], _∷_}
 use lib.Dec.{eqb}
 use lib.ListN.{length, take, getD}
-use Rattle.cols_spec.specs.Sets.{if_then_else_, keep, null, once, has, links}
+use Rattle.cols_spec.specs.Sets.{if_then_else_, keep, null, once, has, connections}
 use Rattle.cols_spec.specs.Places.{At, Nowhere, find, found}
 use Rattle.codec_table.specs.Named.{Message, CAin, CEin}
-use Rattle.out_records.specs.Records.{Sent, to, wire, framed}
+use Rattle.out_records.specs.Records.{Sent, to, wire, record-of}
 use Rattle.out_records.specs.Out.{Puts, each-two}
 use Rattle.domain.specs.Tables.{Users, link, attached}
 use Rattle.domain.specs.Effects.{Effect, ignored, done}
@@ -34,7 +34,7 @@ sieved us k ids = keep (picked us k) (once ids)
 
 -- the connection of a user, 16 where it is not attached; and those of a list's users, held beside the list
 unfoldable pub home : (us : Users) (u : ℕ) → ℕ
-home us u = elim (find (us .ids) u) [ At i ↦ link us i | Nowhere ↦ links ]
+home us u = elim (find (us .ids) u) [ At i ↦ link us i | Nowhere ↦ connections ]
 
 abbrev pub Located : (us : Users) (ids spots : List ℕ) → Type 0
 Located us ids spots = (i : ℕ) → i < length ids → getD spots i 0 ≡ home us (getD ids i 0)
@@ -46,8 +46,8 @@ owned-by us q ids = keep (λ v. found (attached us q v)) ids
 -- what is known of a list's users: the connection of each; how many of them each connection has, and how many stand before its first
 pub record Housed (us : Users) (ids spots shares firsts : List ℕ) : Type 0 where
   pub located : Located us ids spots
-  pub shared : (q : ℕ) → q < links → getD shares q 0 ≡ length (owned-by us q ids)
-  pub led : (q : ℕ) → q < links → (getD firsts q 0 ≤ length ids) × (owned-by us q (take (getD firsts q 0) ids) ≡ [])
+  pub shared : (q : ℕ) → q < connections → getD shares q 0 ≡ length (owned-by us q ids)
+  pub led : (q : ℕ) → q < connections → (getD firsts q 0 ≤ length ids) × (owned-by us q (take (getD firsts q 0) ids) ≡ [])
 
 -- with a user more, at n
 unfoldable pub leads : (share first n : ℕ) → ℕ
@@ -67,7 +67,7 @@ says (Expels c) ids = CEin c ids
 -- a record is begun: who lays its n users behind it makes it whole
 abbrev pub Begins : (s : List ℕ) (at : ℕ) (say : Say) (q n : ℕ) (t : List ℕ) (next : ℕ) → Type 0
 Begins s at say q n t next =
-    (ids : List ℕ) → length ids ≡ n → n ≤ 64 → (u : List ℕ) (k : ℕ) → Puts t next (each-two 1001 ids) u k → Puts s at (framed (wire (says say ids)) q) u k
+    (ids : List ℕ) → length ids ≡ n → n ≤ 64 → (u : List ℕ) (k : ℕ) → Puts t next (each-two 1001 ids) u k → Puts s at (record-of (wire (says say ids)) q) u k
 
 -- what connection q hears: its own ids, if it has any
 unfoldable pub own-to : (us : Users) (ids : List ℕ) (say : (List ℕ → Message)) (q : ℕ) → List Sent

@@ -8,8 +8,9 @@ ghost use lib.ListN.{length, take, getD, set, replicate};
 ghost use Rattle.cols_spec.specs.Sets.{if_then_else_};
 ghost use Rattle.out_records.specs.Records.{records as recordsOf};
 ghost use Rattle.out_records.specs.Out.{Puts, each-two};
-ghost use Rattle.domain.specs.Tables.{Users, users-of};
-ghost use Rattle.domain.specs.Effects.{settle, answered, sends};
+ghost use Rattle.domain.specs.Tables.{Users};
+ghost use Rattle.domain.specs.Lent.{users-before};
+ghost use Rattle.domain.specs.Effects.{settle, answered, delivers};
 ghost use Rattle.domain.specs.Channels.{places as placesOf, own};
 ghost use Rattle.serve_private_tell.specs.Sieve.{counted, sieved, leads, Takes, Located, Housed, owned-by, says, Begins, own-to, tells};
 use domain::answer::Answer;
@@ -71,9 +72,12 @@ fn take_one(
     t: Taken,
 ) -> Taken
     requires { ⌜ (i < 64) × (t .count ≤ i) × (length (now list) ≡ 64) × (64 ≤ length (now spots)) × (length (now shares) ≡ 16) × (length (now firsts) ≡ 16) × ((q : ℕ) → q < 16 → getD (now shares) q 0 ≤ 64) ⌝ }
-    ensures { λ r. ⌜ ((passed : List ℕ) → Takes (users-of (now («user_ids» .entry)) (now («user_links» .entry))) k passed (take (t .count) (now (list .entry))) (now (spots .entry)) (now (shares .entry)) (now (firsts .entry)) (t .seats)
-        → Takes (users-of (now («user_ids» .entry)) (now («user_links» .entry))) k (passed ++ getD (now (list .entry)) i 0 ∷ []) (take (r .count) (now (list .exit))) (now (spots .exit)) (now (shares .exit)) (now (firsts .exit)) (r .seats))
-        × ((j : ℕ) → i < j → getD (now (list .exit)) j 0 ≡ getD (now (list .entry)) j 0) × (length (now (list .exit)) ≡ 64) × (r .count ≤ i + 1) ⌝ }
+    ensures { λ r. ⌜ (let us = users-before «user_ids» «user_links» in
+        ((passed : List ℕ)
+        → Takes us k passed (take (t .count) (now (list .entry))) (now (spots .entry)) (now (shares .entry)) (now (firsts .entry)) (t .seats)
+        → Takes us k (passed ++ getD (now (list .entry)) i 0 ∷ []) (take (r .count) (now (list .exit))) (now (spots .exit)) (now (shares .exit)) (now (firsts .exit)) (r .seats))
+        × ((j : ℕ) → i < j → getD (now (list .exit)) j 0 ≡ getD (now (list .entry)) j 0) × (length (now (list .exit)) ≡ 64)
+        × (r .count ≤ i + 1)) ⌝ }
 {
     let at = &user_links[..];
     let x = list[i];
@@ -108,7 +112,7 @@ fn chosen(
     firsts: &mut [u8],
 ) -> Taken
     requires { ⌜ (64 ≤ length (now spots)) × (now shares ≡ replicate 16 0) × (now firsts ≡ replicate 16 0) ⌝ }
-    ensures { λ r. ⌜ Takes (users-of (now («user_ids» .entry)) (now («user_links» .entry))) k (take count (now (list .entry))) (take (r .count) (now (list .exit))) (now (spots .exit)) (now (shares .exit)) (now (firsts .exit)) (r .seats)
+    ensures { λ r. ⌜ Takes (users-before «user_ids» «user_links») k (take count (now (list .entry))) (take (r .count) (now (list .exit))) (now (spots .exit)) (now (shares .exit)) (now (firsts .exit)) (r .seats)
         × (r .count ≤ 64) ⌝ }
 {
     let m = cols_walk::at_most(count, list[..].len());
@@ -237,7 +241,7 @@ fn tell_own(
     list: &[u16],
 ) -> Answer
     requires { ⌜ (length (now list) ≤ 64) × (length (now list) ≤ length (now spots)) × (16 ≤ length (now shares)) × (16 ≤ length (now firsts)) ⌝ }
-    ensures { λ r. ⌜ ((us : Users) → Housed us (now (list .entry)) (now (spots .entry)) (now (shares .entry)) (now (firsts .entry)) → answered {A = Unit {0}} r tt (now (out .exit)) ≡ sends 0 tt tt (own us (now (list .entry)) (says s)) (now (out .entry))) ⌝ }
+    ensures { λ r. ⌜ ((us : Users) → Housed us (now (list .entry)) (now (spots .entry)) (now (shares .entry)) (now (firsts .entry)) → answered {A = Unit {0}} r tt (now (out .exit)) ≡ delivers 0 tt tt (own us (now (list .entry)) (says s)) (now (out .entry))) ⌝ }
 {
     let room = out.len();
     let mut to = out_records::tried(room, 2208);
@@ -276,8 +280,9 @@ pub fn tell_chosen(
     list: &mut [u16; 64],
     count: usize,
 ) -> Told
-    ensures { λ r. ⌜ (answered {A = Unit {0}} (r .answer) tt (now (out .exit)) ≡ settle tt (tells (users-of (now («user_ids» .entry)) (now («user_links» .entry))) s (sieved (users-of (now («user_ids» .entry)) (now («user_links» .entry))) k (take count (now (list .entry)))) tt) (now (out .entry)))
-        × (r .seats ≡ placesOf (users-of (now («user_ids» .entry)) (now («user_links» .entry))) (sieved (users-of (now («user_ids» .entry)) (now («user_links» .entry))) k (take count (now (list .entry))))) ⌝ }
+    ensures { λ r. ⌜ (let us = users-before «user_ids» «user_links» in
+        (answered {A = Unit {0}} (r .answer) tt (now (out .exit)) ≡ settle tt (tells us s (sieved us k (take count (now (list .entry)))) tt) (now (out .entry)))
+        × (r .seats ≡ placesOf us (sieved us k (take count (now (list .entry)))))) ⌝ }
 {
     let mut spots = [16u8; 64];
     let mut shares = [0u8; 16];

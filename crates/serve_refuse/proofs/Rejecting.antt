@@ -6,14 +6,14 @@ use native.Mathlib.Omega.{arith}
 use borrow.Author.Tests.{ne-eqb}
 use lib.ListN.{length, take}
 use Rattle.codec_table.specs.Named.{RJum}
-use Rattle.out_records.specs.Records.{Sent, to, wire, framed, records}
+use Rattle.out_records.specs.Records.{Sent, to, wire, record-of, records}
 use Rattle.out_records.specs.Out.{Puts, guarded}
 use Rattle.out_records.proofs.Laying.{held, held-length, held-inside, held-count}
 use Rattle.out_records.proofs.Telling.{put-sent, sent-length}
 use Rattle.out_records.proofs.Wire.{first-few, first-length, wire-reject}
-use Rattle.domain.specs.Effects.{settled, sends}
+use Rattle.domain.specs.Effects.{settled, delivers}
 use Rattle.domain.specs.Events.{complaint}
-use Rattle.domain.proofs.Effects.{sends-full, sends-done, sends-none}
+use Rattle.domain.proofs.Effects.{delivers-full, delivers-done, delivers-none}
 
 pub rejection-length : (os : List ℕ) (d : ℕ) → d < 256 → length (wire (RJum d (take 16 os))) ≤ 19
 rejection-length os d l =
@@ -35,27 +35,27 @@ module _ (os : List ℕ) (d : ℕ) (l : d < 256) (s t : List ℕ) (n : ℕ) (put
   rejection-few = omega (arith, held-length put fits, rejection-length os d l)
 
   module _ {A : Type 0} (k p : ℕ) (a : A) (out : List ℕ) where
-    pub rejection-full : length out < n + 4 → settled 9 0 a out ≡ sends k a a (to p (RJum d (take 16 os)) ∷ []) out
+    pub rejection-full : length out < n + 4 → settled 9 0 a out ≡ delivers k a a (to p (RJum d (take 16 os)) ∷ []) out
     rejection-full h =
-        sends-full k a a (to p (RJum d (take 16 os)) ∷ []) out (n + 4) (omega (arith, held-length put fits, sent-length p (RJum d (take 16 os)))) h
+        delivers-full k a a (to p (RJum d (take 16 os)) ∷ []) out (n + 4) (omega (arith, held-length put fits, sent-length p (RJum d (take 16 os)))) h
 
-    pub rejection-sent : n + 4 ≤ length out → (o : List ℕ) (m : ℕ) → Puts out 0 (guarded 0 (take n t) (framed (take n t) p)) o m
-        → settled k m a o ≡ sends k a a (to p (RJum d (take 16 os)) ∷ []) out
+    pub rejection-sent : n + 4 ≤ length out → (o : List ℕ) (m : ℕ) → Puts out 0 (guarded 0 (take n t) (record-of (take n t) p)) o m
+        → settled k m a o ≡ delivers k a a (to p (RJum d (take 16 os)) ∷ []) out
     rejection-sent h o m q =
         let x = RJum d (take 16 os) in
         let r : Puts out 0 (records (to p x ∷ [])) o m = put-sent x (take n t) (held put fits) (omega arith) (omega (arith, rejection-count, rejection-few)) p q in
-        sends-done k a a (to p x ∷ []) out m (r .next) (omega (arith, r .next, held-length put fits, sent-length p x)) out o m refl r
+        delivers-done k a a (to p x ∷ []) out m (r .next) (omega (arith, r .next, held-length put fits, sent-length p x)) out o m refl r
 
 -- what a reply is answered with
 module _ {A : Type 0} (a : A) (n p diagnostic : ℕ) (os out : List ℕ) where
-  pub complains-bad : n ≡ 5 → diagnostic ≡ 4 → sends n a a (to p (RJum diagnostic (take 16 os)) ∷ []) out ≡ sends n a a (complaint n p os) out
+  pub complains-bad : n ≡ 5 → diagnostic ≡ 4 → delivers n a a (to p (RJum diagnostic (take 16 os)) ∷ []) out ≡ delivers n a a (complaint n p os) out
   unfolding complaint
   complains-bad h e = rw (h, e) refl
 
-  pub complains-forbidden : n ≡ 6 → diagnostic ≡ 2 → sends n a a (to p (RJum diagnostic (take 16 os)) ∷ []) out ≡ sends n a a (complaint n p os) out
+  pub complains-forbidden : n ≡ 6 → diagnostic ≡ 2 → delivers n a a (to p (RJum diagnostic (take 16 os)) ∷ []) out ≡ delivers n a a (complaint n p os) out
   unfolding complaint
   complains-forbidden h e = rw (h, e) refl
 
-pub complains-none : {A : Type 0} (a : A) (n p : ℕ) (os out : List ℕ) → (n ≡ 5 → ⊥) → (n ≡ 6 → ⊥) → settled n 0 a out ≡ sends n a a (complaint n p os) out
+pub complains-none : {A : Type 0} (a : A) (n p : ℕ) (os out : List ℕ) → (n ≡ 5 → ⊥) → (n ≡ 6 → ⊥) → settled n 0 a out ≡ delivers n a a (complaint n p os) out
 unfolding complaint
-complains-none a n p os out h k = rw (ne-eqb n 5 h, ne-eqb n 6 k) (sends-none n a a out)
+complains-none a n p os out h k = rw (ne-eqb n 5 h, ne-eqb n 6 k) (delivers-none n a a out)

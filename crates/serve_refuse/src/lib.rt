@@ -9,7 +9,7 @@ ghost use Rattle.codec_table.specs.Named.{RJum};
 ghost use Rattle.out_records.specs.Records.{to};
 ghost use Rattle.domain.specs.Numbers.{replyNumber};
 ghost use Rattle.domain.specs.Tables.{Domain};
-ghost use Rattle.domain.specs.Effects.{answered, sends};
+ghost use Rattle.domain.specs.Effects.{answered, delivers};
 ghost use Rattle.domain.specs.Events.{complaint};
 use domain::answer::Answer;
 use domain::numbers::Diagnostic;
@@ -27,7 +27,7 @@ pub fn is_open(links: u16, p: u8) -> bool
 // A refusal: bad encoding and what may not go up are answered by an RJum, all else by nothing.
 pub fn refuse(p: u8, reply: Reply, octets: &[u8], out: &mut [u8]) -> Answer
     ensures { λ r. ⌜ ((d : Domain) → answered r d (now (out .exit))
-        ≡ sends (replyNumber reply) d d (complaint (replyNumber reply) p (now (octets .entry))) (now (out .entry))) ⌝ }
+        ≡ delivers (replyNumber reply) d d (complaint (replyNumber reply) p (now (octets .entry))) (now (out .entry))) ⌝ }
 {
     let n = domain_state::numbers::reply_number(reply);
     if n == 5 {
@@ -47,7 +47,7 @@ pub fn refuse(p: u8, reply: Reply, octets: &[u8], out: &mut [u8]) -> Answer
 // An RJum to p with the message's first octets, where there is room for it.
 fn reject(p: u8, reply: Reply, diagnostic: u8, octets: &[u8], out: &mut [u8]) -> Answer
     ensures { λ r. ⌜ ((d : Domain) → answered r d (now (out .exit))
-        ≡ sends (replyNumber reply) d d (to p (RJum diagnostic (take 16 (now (octets .entry)))) ∷ []) (now (out .entry))) ⌝ }
+        ≡ delivers (replyNumber reply) d d (to p (RJum diagnostic (take 16 (now (octets .entry)))) ∷ []) (now (out .entry))) ⌝ }
 {
     let mut m = [0u8; 19];
     let n = out_records::lists::reject(&mut m, diagnostic, octets);

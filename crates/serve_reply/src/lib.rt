@@ -3,9 +3,10 @@ pub mod confirms;
 
 ghost use mathlib.Core.Path.{_≡_};
 ghost use lib.Dec.{eqb};
-ghost use Rattle.out_records.specs.Records.{framed};
+ghost use Rattle.out_records.specs.Records.{record-of};
 ghost use Rattle.out_records.specs.Out.{guarded, told};
-ghost use Rattle.domain.specs.Tables.{users-of, attached};
+ghost use Rattle.domain.specs.Tables.{attached};
+ghost use Rattle.domain.specs.Lent.{users-before};
 ghost use Rattle.domain.specs.Numbers.{replyNumber};
 ghost use Rattle.domain.specs.Effects.{answered};
 ghost use Rattle.domain_tables.specs.Numbered.{place};
@@ -15,7 +16,7 @@ use domain::numbers::Reply;
 
 // The place of an initiator, which must be attached on p; 64 is nowhere.
 pub fn initiator(user_ids: &[u16; 64], user_links: &[u8; 64], p: u8, u: u16) -> usize
-    ensures { λ r. ⌜ place 64 r ≡ attached (users-of (now («user_ids» .entry)) (now («user_links» .entry))) p u ⌝ }
+    ensures { λ r. ⌜ place 64 r ≡ attached (users-before «user_ids» «user_links») p u ⌝ }
 {
     let all = &user_ids[..];
     let i = domain_tables::users::attached(user_ids, user_links, p, u);
@@ -42,7 +43,7 @@ pub fn refused(a: Answer) -> bool
 
 // A message to p, where there is room for its record.
 pub fn confirm(out: &mut [u8], p: u8, m: &[u8]) -> Answer
-    ensures { λ r. ⌜ answered {A = Unit {0}} r tt (now (out .exit)) ≡ whole (guarded 0 (now (m .entry)) (framed (now (m .entry)) p)) (now (out .entry)) ⌝ }
+    ensures { λ r. ⌜ answered {A = Unit {0}} r tt (now (out .exit)) ≡ whole (guarded 0 (now (m .entry)) (record-of (now (m .entry)) p)) (now (out .entry)) ⌝ }
 {
     let total = out_records::record_size(m);
     if out.len() < total {

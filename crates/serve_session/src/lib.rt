@@ -1,9 +1,10 @@
-// A domain is made, and connections open.
+// A domain is made, connections open, and the tables are asked.
 ghost use mathlib.Core.Path.{_≡_};
 ghost use mathlib.Core.List.{List};
 ghost use Prim.Native.Nat.{ℕ};
 ghost use Rattle.domain.specs.Numbers.{replyNumber};
-ghost use Rattle.domain.specs.Tables.{Domain, domain-of, put-links, between, in-range, channels-of};
+ghost use Rattle.domain.specs.Tables.{Domain, put-links, between, in-range};
+ghost use Rattle.domain.specs.Lent.{channels-before, domain-after, domain-before};
 ghost use Rattle.domain.specs.Effects.{settled};
 ghost use Rattle.domain.specs.Events.{opens};
 ghost use Rattle.domain.specs.Outcomes.{limited, begun, after, audience as audienceOf};
@@ -35,11 +36,9 @@ pub fn start(
 ) -> Started
     ensures { λ r. ⌜ _≡_ {A = ℕ × Domain} (
       replyNumber (r .reply),
-      domain-of (r .limits) (now (links .exit)) (now («user_ids» .exit)) (now («user_links» .exit)) (now («channel_ids» .exit)) (now («channel_kinds» .exit))
-          (now (managers .exit)) (now (admitted .exit)) (now (joined .exit)) (now («token_ids» .exit)) (now («token_states» .exit)) (now («token_values» .exit)),
+      domain-after (r .limits) links «user_ids» «user_links» «channel_ids» «channel_kinds» managers admitted joined «token_ids» «token_states» «token_values»,
     )
-        (begun channels users tokens (domain-of (limited 0 0 0) (now (links .entry)) (now («user_ids» .entry)) (now («user_links» .entry)) (now («channel_ids» .entry)) (now («channel_kinds» .entry))
-        (now (managers .entry)) (now (admitted .entry)) (now (joined .entry)) (now («token_ids» .entry)) (now («token_states» .entry)) (now («token_values» .entry)))) ⌝ }
+        (begun channels users tokens (domain-before (limited 0 0 0) links «user_ids» «user_links» «channel_ids» «channel_kinds» managers admitted joined «token_ids» «token_states» «token_values»)) ⌝ }
 {
     if !in_range(channels, users, tokens) {
         return Started {
@@ -108,8 +107,6 @@ pub fn open(links: &mut u16, p: u8) -> Reply
     Reply::Done
 }
 
-// What can be asked of the tables.
-
 // A channel's audience: the number of connections joined, 0 if it is not in use.
 pub fn audience(
     channel_ids: &[u16; 128],
@@ -119,7 +116,7 @@ pub fn audience(
     joined: &[u16; 128],
     c: u16,
 ) -> u32
-    ensures { λ r. ⌜ r ≡ audienceOf (channels-of (now («channel_ids» .entry)) (now («channel_kinds» .entry)) (now (managers .entry)) (now (admitted .entry)) (now (joined .entry))) c ⌝ }
+    ensures { λ r. ⌜ r ≡ audienceOf (channels-before «channel_ids» «channel_kinds» managers admitted joined) c ⌝ }
 {
     let j = cols_find::find(channel_ids, c);
     let rs = &channel_kinds[..];

@@ -9,7 +9,7 @@ use Rattle.domain.specs.Channels.{joined as marked}
 use Rattle.domain.specs.Tables.{fresh}
 use Rattle.domain.specs.Events.{opens, loses, hears, reads}
 use Rattle.domain.specs.History.{nothing-yet, begins, home}
-use Rattle.domain.specs.Claims.{Turn, Run, run, now, past, turned}
+use Rattle.domain.specs.Claims.{Turn, Run, run, now, past, next-run}
 use Rattle.domain.specs.Hearers.{known-as, told-joined, entitled}
 
 -- q carries one of these users who may hear c, and was told that it is joined
@@ -26,7 +26,7 @@ heard r = (keep (could r 1003) (0 ∷ 1 ∷ []), keep (λ q. marked (now r .chan
 -- after each event
 unfoldable pub hearings : Run → List Turn → List Heard
 hearings r [] = []
-hearings r (t ∷ ts) = heard (turned r t) ∷ hearings (turned r t) ts
+hearings r (t ∷ ts) = heard (next-run r t) ∷ hearings (next-run r t) ts
 
 unfoldable pub from-start : List Turn → List Heard
 from-start ts = hearings (run (fresh (record { channels = 128; users = 64; tokens = 64 })) (begins nothing-yet)) ts

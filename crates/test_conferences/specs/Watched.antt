@@ -9,7 +9,7 @@ use Rattle.domain.specs.Tokens.{offered-to}
 use Rattle.domain.specs.Tables.{Domain, fresh, state}
 use Rattle.domain.specs.Good.{good}
 use Rattle.domain.specs.History.{nothing-yet, begins, open-offer, gain, held}
-use Rattle.domain.specs.Claims.{Turn, Run, run, now, past, turned, holder, formed}
+use Rattle.domain.specs.Claims.{Turn, Run, run, now, past, next-run, holder, formed}
 use Rattle.test_conferences.specs.Offers.{turns as offers}
 use Rattle.test_conferences.specs.Private.{turns as private}
 use Rattle.test_conferences.specs.Joins.{turns as joins}
@@ -34,7 +34,7 @@ all-formed c = all (λ t. formed (t .0)) (c .1)
 -- a test passes from a run on: at once, and after every event
 unfoldable pub onward : (Run → Bool) → Run → List Turn → Bool
 onward f r [] = f r
-onward f r (t ∷ ts) = let rest = onward f (turned r t) ts in f r && rest
+onward f r (t ∷ ts) = let rest = onward f (next-run r t) ts in f r && rest
 
 -- and so from a fresh domain
 unfoldable pub always : (Run → Bool) → Conference → Bool

@@ -13,7 +13,7 @@ use Rattle.trace_frames.specs.declared.Kind.the-variants.{Open, Loss, Me
 use Rattle.trace_frames.specs.declared.Frame.{Frame}
 use Rattle.trace_frames.specs.declared.Frame.the-variants.{End, Good, Bad}
 use Rattle.trace_frames.specs.Frames.{Front, over, frame, refused, ofKind, front, meaning, lengthOf, sizeOf, versionOf, kindOf, connectionOf}
-use Rattle.trace_frames.specs.Claims.{Breaks, no-length, length-below-3, octets-missing, other-version, other-kind, octets-behind, framed, octets-below-256}
+use Rattle.trace_frames.specs.Claims.{Breaks, no-length, length-below-3, octets-missing, other-version, other-kind, octets-behind, frame-octets, octets-below-256}
 use Rattle.trace_frames.specs.Claims.{bad-exactly, good-stands, good-inside, good-found, whole-stays, one-answer}
 
 -- all the rules
@@ -127,7 +127,7 @@ short-bad s h l = ⊎-elim (bad-is s h) (λ k. absurd (omega arith)) (judge s)
 take-five : (a b c d e m size : ℕ) (t : List ℕ) → size ≡ suc (suc (suc (suc (suc m)))) → take size (a ∷ b ∷ c ∷ d ∷ e ∷ t) ≡ a ∷ b ∷ c ∷ d ∷ e ∷ take m t
 take-five a b c d e m size t q = rw q
 
-front-stands : (s : List ℕ) → Keeps s → octets-below-256 s → take (sizeOf s) s ≡ framed (kindOf s) (connectionOf s) (take (sizeOf s - 5) (drop 5 s))
+front-stands : (s : List ℕ) → Keeps s → octets-below-256 s → take (sizeOf s) s ≡ frame-octets (kindOf s) (connectionOf s) (take (sizeOf s - 5) (drop 5 s))
 front-stands [] g low = absurd (omega arith)
 front-stands (a ∷ []) g low = absurd (omega arith)
 front-stands (a ∷ b ∷ []) g low = absurd (omega arith)
@@ -171,7 +171,7 @@ inside s k p start size e =
 
 pub found : good-found
 found k p os rest h b =
-    good-is (framed k p os ++ rest)
+    good-is (frame-octets k p os ++ rest)
     (record {
       whole = omega (arith, length-append os rest);
       long = omega arith;
@@ -181,7 +181,7 @@ found k p os rest h b =
     })
     ∙ ap (λ n. frame k p 5 n) (omega arith)
   where
-    bare : os ≡ [] → sizeOf (framed k p os ++ rest) ≡ 5
+    bare : os ≡ [] → sizeOf (frame-octets k p os ++ rest) ≡ 5
     bare e = let z : length os ≡ 0 = ap length e in omega arith
 
 pub stays : whole-stays

@@ -21,8 +21,8 @@ abbrev pub bad-exactly : Type 0
 bad-exactly = (s : List ℕ) → 0 < length s → (front s ≡ refused 11) ↔ Breaks s
 
 -- the frame of a kind on a connection with these octets
-abbrev pub framed : ℕ → ℕ → List ℕ → List ℕ
-framed kind connection os = let n = 3 + length os in n / 256 ∷ n % 256 ∷ 1 ∷ kind ∷ connection ∷ os
+abbrev pub frame-octets : ℕ → ℕ → List ℕ → List ℕ
+frame-octets kind connection os = let n = 3 + length os in n / 256 ∷ n % 256 ∷ 1 ∷ kind ∷ connection ∷ os
 
 abbrev pub octets-below-256 : List ℕ → Type 0
 octets-below-256 s = (i : ℕ) → getD s i 0 < 256
@@ -30,7 +30,7 @@ octets-below-256 s = (i : ℕ) → getD s i 0 < 256
 -- a good frame's octets are where it says: the frame of just these octets is what stands there
 abbrev pub good-stands : Type 0
 good-stands = (s : List ℕ) (kind connection start size : ℕ) → octets-below-256 s → front s ≡ frame kind connection start size
-    → take size s ≡ framed kind connection (take (size - start) (drop start s))
+    → take size s ≡ frame-octets kind connection (take (size - start) (drop start s))
 
 -- they lie in s
 abbrev pub good-inside : Type 0
@@ -39,7 +39,7 @@ good-inside = (s : List ℕ) (kind connection start size : ℕ) → front s ≡ 
 -- and every frame that keeps the rules is found, whatever stands behind it
 abbrev pub good-found : Type 0
 good-found = (kind connection : ℕ) (os rest : List ℕ) → kind ≤ 2 → (kind ≢ 2 → os ≡ [])
-    → front (framed kind connection os ++ rest) ≡ frame kind connection 5 (5 + length os)
+    → front (frame-octets kind connection os ++ rest) ≡ frame kind connection 5 (5 + length os)
 
 -- a frame that is there whole is the same whatever is read behind it, so a trace may be read in pieces
 abbrev pub whole-stays : Type 0

@@ -48,17 +48,17 @@ use Rattle.codec_octets.proofs.Got as S
 use Rattle.codec_octets.proofs.Got.Laws as S′
 use Rattle.codec_cursor.proofs.start as start
 use Rattle.codec_cursor.proofs.start.Symbol as start-def
-use Rattle.codec_cursor.proofs.start.Symbol.{name as #cursor·start}
+use Rattle.codec_cursor.proofs.start.Symbol.{name as #codec-cursor·start}
 use Rattle.codec_cursor.proofs.start.Met as start-thm
 use Rattle.codec_cursor.proofs.moved as moved
 use Rattle.codec_cursor.proofs.moved.Symbol as moved-def
-use Rattle.codec_cursor.proofs.moved.Symbol.{name as #cursor·moved}
+use Rattle.codec_cursor.proofs.moved.Symbol.{name as #codec-cursor·moved}
 use Rattle.codec_cursor.proofs.moved.Met as moved-thm
 use Rattle.codec_cursor.proofs.field as field
 use Rattle.codec_cursor.proofs.field.Symbol as field-def
-use Rattle.codec_cursor.proofs.field.Symbol.{name as #cursor·field}
+use Rattle.codec_cursor.proofs.field.Symbol.{name as #codec-cursor·field}
 use Rattle.codec_cursor.proofs.field.Met as field-thm
-use Rattle.codec_cursor.proofs.field_of.Key.{name as #cursor·field-of}
+use Rattle.codec_cursor.proofs.field_of.Key.{name as #codec-cursor·field-of}
 use Rattle.codec_cursor.proofs.field_of as field-of
 use Rattle.codec_cursor.proofs.field_of.Statement as stated
 use Rattle.codec_cursor.proofs.field_of.Code as code
@@ -141,7 +141,7 @@ module _ {M : Type 1} (𝓤 : URA M) (H : Heap 𝓤) (A : Atoms 𝓤) (W : Given
       suffices ! _ (ends-at 𝓤 H A field-of.ended stayed (field-of.clauses 𝓤 H A mem run) W (((κ, tt), (q, tt), tt, (s, (pos, (k, tt))), at), tt) u g (tt, (tt, (tt, tt))) (tt, (tt, (tt, tt)))) $ says ! e $
       move ! (1 ∷ []) $ frame ! $ nothing ! $ owned ! u8 (Is u8) (uint-makes 𝓤 H A W w8) k _ (refl, fk) $ fjoin ! $ owned ! usize (Is usize) (uint-makes 𝓤 H A W w64) pos _ (refl, fb) $ fjoin ! $ move ! (2 ∷ 0 ∷ []) $ fjoin ! $ frame ! $ done !
 
-  module _ (C : Calls 𝓤 H) (Λ : Loops 𝓤 H) (fm : FmC 𝓤 H (W .laws) C) (known-start : Triple 𝓤 (C #cursor·start) (Start 𝓤 H A mem run)) (known-moved : Triple 𝓤 (C #cursor·moved) (Moved 𝓤 H A mem run)) (known-field : Triple 𝓤 (C #cursor·field) (Field 𝓤 H A mem run)) where
+  module _ (C : Calls 𝓤 H) (Λ : Loops 𝓤 H) (fm : FmC 𝓤 H (W .laws) C) (known-start : Triple 𝓤 (C #codec-cursor·start) (Start 𝓤 H A mem run)) (known-moved : Triple 𝓤 (C #codec-cursor·moved) (Moved 𝓤 H A mem run)) (known-field : Triple 𝓤 (C #codec-cursor·field) (Field 𝓤 H A mem run)) where
     walk : Is (ShrSlice (named 0) κ u8) s (v ∷ []) → ent 𝓤 (onEntry 𝓤 H A field-of.signature (κ, tt) (q, tt) (s, (pos, (k, tt))) at) (WpFn 𝓤 H C Λ code.function (v ∷ vint w64 pos ∷ vint w8 k ∷ []) Post)
     walk p =
         qed W (raw (onEntry 𝓤 H A field-of.signature (κ, tt) (q, tt) (s, (pos, (k, tt))) at) ∷ []) ∵ enter ! C Λ code.function (v ∷ vint w64 pos ∷ vint w8 k ∷ []) _ $
@@ -173,13 +173,13 @@ module _ {M : Type 1} (𝓤 : URA M) (H : Heap 𝓤) (A : Atoms 𝓤) (W : Given
         by ! (exits g u″ (subst (λ (x : RefT (List ℕ)). FieldAt (now x) pos (fieldOf k) g) (e′ .0 ∙ e .0) (subst (λ (n : ℕ). FieldAt (now (t .octets)) n (fieldOf k) g) (e′ .1) e″)))))))))))))))))))))
 
 module _ {M : Type 1} (𝓤 : URA M) (H : Heap 𝓤) (A : Atoms 𝓤) (W : Given 𝓤 H A) (mem : Memory → SProp 𝓤) (run : Routine → Fun 𝓤) where
-  field-of-walks : (C : Calls 𝓤 H) (Λ : Loops 𝓤 H) → FmC 𝓤 H (W .laws) C → Triple 𝓤 (C #cursor·start) (Start 𝓤 H A mem run) → Triple 𝓤 (C #cursor·moved) (Moved 𝓤 H A mem run) → Triple 𝓤 (C #cursor·field) (Field 𝓤 H A mem run)
+  field-of-walks : (C : Calls 𝓤 H) (Λ : Loops 𝓤 H) → FmC 𝓤 H (W .laws) C → Triple 𝓤 (C #codec-cursor·start) (Start 𝓤 H A mem run) → Triple 𝓤 (C #codec-cursor·moved) (Moved 𝓤 H A mem run) → Triple 𝓤 (C #codec-cursor·field) (Field 𝓤 H A mem run)
       → Walks 𝓤 H A field-of.ended stayed (WpFn 𝓤 H C Λ code.function) (field-of.clauses 𝓤 H A mem run)
   field-of-walks C Λ fm known-start known-moved known-field = walked 𝓤 H A field-of.ended stayed (field-of.clauses 𝓤 H A mem run) (WpFn 𝓤 H C Λ code.function) (λ κs. (slice-vals, (uint-vals w64, (uint-vals w8, tt)))) (λ κs. (shr-slice-tells (named 0) (κs .0) u8, (uint-tells w64, (uint-tells w8, tt))))
       (λ κs qs bounds a g are. via 𝓤 _ (fst∗ 𝓤 _ (emp 𝓤)) (walk 𝓤 H A W mem run (κs .0) (qs .0) (a .0) (a .1 .0) (a .1 .1 .0) (are .1 .0 .1) (are .1 .1 .0 .1) C Λ fm known-start known-moved known-field (are .0)))
 
 field-of-meets : {M : Type 1} (𝓤 : URA M) (H : Heap 𝓤) (A : Atoms 𝓤) (W : Given 𝓤 H A) (mem : Memory → SProp 𝓤) (run : Routine → Fun 𝓤) (𝓣 : Tables 𝓤 H)
-    → Triple 𝓤 (𝓣 .C #cursor·start) (Start 𝓤 H A mem run) → Triple 𝓤 (𝓣 .C #cursor·moved) (Moved 𝓤 H A mem run) → Triple 𝓤 (𝓣 .C #cursor·field) (Field 𝓤 H A mem run)
+    → Triple 𝓤 (𝓣 .C #codec-cursor·start) (Start 𝓤 H A mem run) → Triple 𝓤 (𝓣 .C #codec-cursor·moved) (Moved 𝓤 H A mem run) → Triple 𝓤 (𝓣 .C #codec-cursor·field) (Field 𝓤 H A mem run)
     → Meets 𝓤 H A field-of.signature (WpFn 𝓤 H (𝓣 .C) (𝓣 .Λ) code.function) (field-of.spec 𝓤 H A mem run)
 field-of-meets 𝓤 H A W mem run 𝓣 known-start known-moved known-field = walk-meets 𝓤 H A field-of.ended stayed W (goes-none-slice 𝓤 H A W 1 (0 ∷ []) tt (plain (λ _. u8)) yes, (goes-none 𝓤 H A W 1 (λ _. usize) yes (λ κs x f. refl), (goes-none 𝓤 H A W 1 (λ _. u8) yes (λ κs x f. refl), tt))) (field-of.clauses 𝓤 H A mem run) (WpFn 𝓤 H (𝓣 .C) (𝓣 .Λ) code.function) (WpFn-mono 𝓤 H (W .laws) 𝓣 code.function)
     (field-of-walks 𝓤 H A W mem run (𝓣 .C) (𝓣 .Λ) (fmOf 𝓤 H (W .laws) 𝓣) known-start known-moved known-field)
@@ -188,8 +188,8 @@ pub field-of-spec : {M : Type 1} → stated.statement M
 unfolding code.routine tablesOf
 field-of-spec 𝓤 H 𝓜 𝓖 𝓡 =
     entered 𝓤 H (tripleOf 𝓤 H (𝓖 .A) field-of.signature (field-of.spec 𝓤 H (𝓖 .A) (𝓜 .mem) (𝓡 .run)))
-    (tables 𝓤 H 𝓜 𝓡 code.env .C) (tables 𝓤 H 𝓜 𝓡 code.env .Λ) #cursor·field-of code.function (code.unfolded 𝓤 H 𝓜 𝓡)
+    (tables 𝓤 H 𝓜 𝓡 code.env .C) (tables 𝓤 H 𝓜 𝓡 code.env .Λ) #codec-cursor·field-of code.function (code.unfolded 𝓤 H 𝓜 𝓡)
     (field-of-meets 𝓤 H (𝓖 .A) (givenOf 𝓤 H 𝓜 𝓖) (𝓜 .mem) (𝓡 .run) (tablesOf 𝓤 H 𝓜 (tables 𝓤 H 𝓜 𝓡 code.env))
-    (cited 𝓤 H (Start 𝓤 H (𝓖 .A) (𝓜 .mem) (𝓡 .run)) 𝓜 𝓡 code.env #cursor·start start-def.routine code.calls-cursor·start (start-thm.met 𝓤 H 𝓜 𝓖 𝓡))
-    (cited 𝓤 H (Moved 𝓤 H (𝓖 .A) (𝓜 .mem) (𝓡 .run)) 𝓜 𝓡 code.env #cursor·moved moved-def.routine code.calls-cursor·moved (moved-thm.met 𝓤 H 𝓜 𝓖 𝓡))
-    (cited 𝓤 H (Field 𝓤 H (𝓖 .A) (𝓜 .mem) (𝓡 .run)) 𝓜 𝓡 code.env #cursor·field field-def.routine code.calls-cursor·field (field-thm.met 𝓤 H 𝓜 𝓖 𝓡)))
+    (cited 𝓤 H (Start 𝓤 H (𝓖 .A) (𝓜 .mem) (𝓡 .run)) 𝓜 𝓡 code.env #codec-cursor·start start-def.routine code.calls-codec-cursor·start (start-thm.met 𝓤 H 𝓜 𝓖 𝓡))
+    (cited 𝓤 H (Moved 𝓤 H (𝓖 .A) (𝓜 .mem) (𝓡 .run)) 𝓜 𝓡 code.env #codec-cursor·moved moved-def.routine code.calls-codec-cursor·moved (moved-thm.met 𝓤 H 𝓜 𝓖 𝓡))
+    (cited 𝓤 H (Field 𝓤 H (𝓖 .A) (𝓜 .mem) (𝓡 .run)) 𝓜 𝓡 code.env #codec-cursor·field field-def.routine code.calls-codec-cursor·field (field-thm.met 𝓤 H 𝓜 𝓖 𝓡)))

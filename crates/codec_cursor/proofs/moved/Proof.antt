@@ -37,7 +37,7 @@ use denote.Exit.{yes}
 use Rattle.codec_cursor.specs.declared.Reader.{Reader}
 use Rattle.codec_cursor.proofs.Reader as T
 use Rattle.codec_cursor.proofs.Reader.Laws as T′
-use Rattle.codec_cursor.proofs.moved.Key.{name as #cursor·moved}
+use Rattle.codec_cursor.proofs.moved.Key.{name as #codec-cursor·moved}
 use Rattle.codec_cursor.proofs.moved as moved
 use Rattle.codec_cursor.proofs.moved.Statement as stated
 use Rattle.codec_cursor.proofs.moved.Code as code
@@ -96,5 +96,5 @@ pub moved-spec : {M : Type 1} → stated.statement M
 unfolding code.routine tablesOf
 moved-spec 𝓤 H 𝓜 𝓖 𝓡 =
     entered 𝓤 H (tripleOf 𝓤 H (𝓖 .A) moved.signature (moved.spec 𝓤 H (𝓖 .A) (𝓜 .mem) (𝓡 .run)))
-    (tables 𝓤 H 𝓜 𝓡 code.env .C) (tables 𝓤 H 𝓜 𝓡 code.env .Λ) #cursor·moved code.function (code.unfolded 𝓤 H 𝓜 𝓡)
+    (tables 𝓤 H 𝓜 𝓡 code.env .C) (tables 𝓤 H 𝓜 𝓡 code.env .Λ) #codec-cursor·moved code.function (code.unfolded 𝓤 H 𝓜 𝓡)
     (moved-meets 𝓤 H (𝓖 .A) (givenOf 𝓤 H 𝓜 𝓖) (𝓜 .mem) (𝓡 .run) (tablesOf 𝓤 H 𝓜 (tables 𝓤 H 𝓜 𝓡 code.env)))

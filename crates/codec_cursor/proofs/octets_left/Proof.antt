@@ -48,9 +48,9 @@ use Rattle.codec_cursor.proofs.Reader as T
 use Rattle.codec_cursor.proofs.Reader.Laws as T′
 use Rattle.codec_cursor.proofs.left_behind as step
 use Rattle.codec_cursor.proofs.left_behind.Symbol as step-def
-use Rattle.codec_cursor.proofs.left_behind.Symbol.{name as #cursor·left-behind}
+use Rattle.codec_cursor.proofs.left_behind.Symbol.{name as #codec-cursor·left-behind}
 use Rattle.codec_cursor.proofs.left_behind.Met as step-thm
-use Rattle.codec_cursor.proofs.octets_left.Key.{name as #cursor·octets-left}
+use Rattle.codec_cursor.proofs.octets_left.Key.{name as #codec-cursor·octets-left}
 use Rattle.codec_cursor.proofs.octets_left as octets-left
 use Rattle.codec_cursor.proofs.octets_left.Statement as stated
 use Rattle.codec_cursor.proofs.octets_left.Code as code
@@ -124,7 +124,7 @@ module _ {M : Type 1} (𝓤 : URA M) (H : Heap 𝓤) (A : Atoms 𝓤) (W : Given
       suffices ! _ (ends-at 𝓤 H A octets-left.ended stayed (octets-left.clauses 𝓤 H A mem run) W (((κ, tt), (q, tt), tt, (d, tt), (mach ∷ [], tt)), tt) u r (tt, tt) (tt, tt)) $ says ! e $
       move ! (1 ∷ []) $ frame ! $ nothing ! $ move ! (2 ∷ 0 ∷ []) $ fjoin ! $ frame ! $ done !
 
-  module _ (C : Calls 𝓤 H) (Λ : Loops 𝓤 H) (fm : FmC 𝓤 H (W .laws) C) (known : Triple 𝓤 (C #cursor·left-behind) (Callee 𝓤 H A mem run)) where
+  module _ (C : Calls 𝓤 H) (Λ : Loops 𝓤 H) (fm : FmC 𝓤 H (W .laws) C) (known : Triple 𝓤 (C #codec-cursor·left-behind) (Callee 𝓤 H A mem run)) where
     walk : Holds (hasTy (T′.mir (named 0)) mach) × WT mach → ent 𝓤 (onEntry 𝓤 H A octets-left.signature (κ, tt) (q, tt) (d, tt) (mach ∷ [], tt)) (WpFn 𝓤 H C Λ code.function (mach ∷ []) Post)
     walk wt =
         qed W (raw (onEntry 𝓤 H A octets-left.signature (κ, tt) (q, tt) (d, tt) (mach ∷ [], tt)) ∷ []) ∵ enter ! C Λ code.function (mach ∷ []) _ $
@@ -142,13 +142,13 @@ module _ {M : Type 1} (𝓤 : URA M) (H : Heap 𝓤) (A : Atoms 𝓤) (W : Given
         move ! (9 ∷ 10 ∷ []) $ free1 ! $ move ! (7 ∷ 8 ∷ []) $ free1 ! $ move ! (5 ∷ 6 ∷ []) $ free1 ! $ move ! (3 ∷ 4 ∷ []) $ free1 ! $ free0 ! $ by ! (exits r u e)))))))))
 
 module _ {M : Type 1} (𝓤 : URA M) (H : Heap 𝓤) (A : Atoms 𝓤) (W : Given 𝓤 H A) (mem : Memory → SProp 𝓤) (run : Routine → Fun 𝓤) where
-  octets-left-walks : (C : Calls 𝓤 H) (Λ : Loops 𝓤 H) → FmC 𝓤 H (W .laws) C → Triple 𝓤 (C #cursor·left-behind) (Callee 𝓤 H A mem run)
+  octets-left-walks : (C : Calls 𝓤 H) (Λ : Loops 𝓤 H) → FmC 𝓤 H (W .laws) C → Triple 𝓤 (C #codec-cursor·left-behind) (Callee 𝓤 H A mem run)
       → Walks 𝓤 H A octets-left.ended stayed (WpFn 𝓤 H C Λ code.function) (octets-left.clauses 𝓤 H A mem run)
   octets-left-walks C Λ fm known = walked 𝓤 H A octets-left.ended stayed (octets-left.clauses 𝓤 H A mem run) (WpFn 𝓤 H C Λ code.function) (λ κs. (LL.vals (T.the-type (namedLft 1 0 tt κs)) (T′.the-laws (namedLft 1 0 tt κs)), tt)) (λ κs. (LL.tells (T.the-type (namedLft 1 0 tt κs)) (T′.the-laws (namedLft 1 0 tt κs)), tt))
       (λ κs qs bounds a g are. via 𝓤 _ (fst∗ 𝓤 _ (emp 𝓤)) (walk 𝓤 H A W mem run (κs .0) (qs .0) (a .0) C Λ fm known (LL.lawful (T.the-type (namedLft 1 0 tt κs)) (T′.the-laws (namedLft 1 0 tt κs)) 𝓤 H A W .typed (a .0) _ (are .0) .0)))
 
 octets-left-meets : {M : Type 1} (𝓤 : URA M) (H : Heap 𝓤) (A : Atoms 𝓤) (W : Given 𝓤 H A) (mem : Memory → SProp 𝓤) (run : Routine → Fun 𝓤) (𝓣 : Tables 𝓤 H)
-    → Triple 𝓤 (𝓣 .C #cursor·left-behind) (Callee 𝓤 H A mem run)
+    → Triple 𝓤 (𝓣 .C #codec-cursor·left-behind) (Callee 𝓤 H A mem run)
     → Meets 𝓤 H A octets-left.signature (WpFn 𝓤 H (𝓣 .C) (𝓣 .Λ) code.function) (octets-left.spec 𝓤 H A mem run)
 octets-left-meets 𝓤 H A W mem run 𝓣 known-step = walk-meets 𝓤 H A octets-left.ended stayed W (goes-none 𝓤 H A W 1 B yes (λ κs x f. refl), tt) (octets-left.clauses 𝓤 H A mem run) (WpFn 𝓤 H (𝓣 .C) (𝓣 .Λ) code.function) (WpFn-mono 𝓤 H (W .laws) 𝓣 code.function)
     (octets-left-walks 𝓤 H A W mem run (𝓣 .C) (𝓣 .Λ) (fmOf 𝓤 H (W .laws) 𝓣) known-step)
@@ -157,6 +157,6 @@ pub octets-left-spec : {M : Type 1} → stated.statement M
 unfolding code.routine tablesOf
 octets-left-spec 𝓤 H 𝓜 𝓖 𝓡 =
     entered 𝓤 H (tripleOf 𝓤 H (𝓖 .A) octets-left.signature (octets-left.spec 𝓤 H (𝓖 .A) (𝓜 .mem) (𝓡 .run)))
-    (tables 𝓤 H 𝓜 𝓡 code.env .C) (tables 𝓤 H 𝓜 𝓡 code.env .Λ) #cursor·octets-left code.function (code.unfolded 𝓤 H 𝓜 𝓡)
+    (tables 𝓤 H 𝓜 𝓡 code.env .C) (tables 𝓤 H 𝓜 𝓡 code.env .Λ) #codec-cursor·octets-left code.function (code.unfolded 𝓤 H 𝓜 𝓡)
     (octets-left-meets 𝓤 H (𝓖 .A) (givenOf 𝓤 H 𝓜 𝓖) (𝓜 .mem) (𝓡 .run) (tablesOf 𝓤 H 𝓜 (tables 𝓤 H 𝓜 𝓡 code.env))
-    (cited 𝓤 H (Callee 𝓤 H (𝓖 .A) (𝓜 .mem) (𝓡 .run)) 𝓜 𝓡 code.env #cursor·left-behind step-def.routine code.calls-cursor·left-behind (step-thm.met 𝓤 H 𝓜 𝓖 𝓡)))
+    (cited 𝓤 H (Callee 𝓤 H (𝓖 .A) (𝓜 .mem) (𝓡 .run)) 𝓜 𝓡 code.env #codec-cursor·left-behind step-def.routine code.calls-codec-cursor·left-behind (step-thm.met 𝓤 H 𝓜 𝓖 𝓡)))

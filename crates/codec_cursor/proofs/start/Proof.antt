@@ -38,7 +38,7 @@ use denote.Exit.{yes}
 use Rattle.codec_cursor.specs.declared.Reader.{Reader}
 use Rattle.codec_cursor.proofs.Reader as T
 use Rattle.codec_cursor.proofs.Reader.Laws as T′
-use Rattle.codec_cursor.proofs.start.Key.{name as #cursor·start}
+use Rattle.codec_cursor.proofs.start.Key.{name as #codec-cursor·start}
 use Rattle.codec_cursor.proofs.start as start
 use Rattle.codec_cursor.proofs.start.Statement as stated
 use Rattle.codec_cursor.proofs.start.Code as code
@@ -95,5 +95,5 @@ pub start-spec : {M : Type 1} → stated.statement M
 unfolding code.routine tablesOf
 start-spec 𝓤 H 𝓜 𝓖 𝓡 =
     entered 𝓤 H (tripleOf 𝓤 H (𝓖 .A) start.signature (start.spec 𝓤 H (𝓖 .A) (𝓜 .mem) (𝓡 .run)))
-    (tables 𝓤 H 𝓜 𝓡 code.env .C) (tables 𝓤 H 𝓜 𝓡 code.env .Λ) #cursor·start code.function (code.unfolded 𝓤 H 𝓜 𝓡)
+    (tables 𝓤 H 𝓜 𝓡 code.env .C) (tables 𝓤 H 𝓜 𝓡 code.env .Λ) #codec-cursor·start code.function (code.unfolded 𝓤 H 𝓜 𝓡)
     (start-meets 𝓤 H (𝓖 .A) (givenOf 𝓤 H 𝓜 𝓖) (𝓜 .mem) (𝓡 .run) (tablesOf 𝓤 H 𝓜 (tables 𝓤 H 𝓜 𝓡 code.env)))

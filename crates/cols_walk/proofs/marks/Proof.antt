@@ -4,14 +4,14 @@ use mathlib.Core.Path.{_≡_, ap₂, _∙_}
 use native.Mathlib.Omega.{arith}
 use lib.Bits.{bitOr}
 use lib.ListN.{length, take}
-use Rattle.cols_spec.specs.Sets.{marked}
+use Rattle.cols_spec.specs.Sets.{ids-above}
 use Rattle.cols_spec.proofs.Gaps.{marked-none, marked-part, marked-end}
 use borrow.Author.Needs.{needs}
 use Rattle.cols_walk.proofs.marks.Statement.{statement}
 use Rattle.cols_walk.proofs.marks.Tie as tie
 
 abbrev Inv-loop : tie.InvT-loop
-Inv-loop ids low m₀ i₀ m i = (i ≤ length ids) × (m ≡ marked low (take i ids))
+Inv-loop ids low m₀ i₀ m i = (i ≤ length ids) × (m ≡ ids-above low (take i ids))
 
 abbrev μ-loop : tie.MeasureT-loop
 μ-loop ids low m₀ i₀ m i = length ids - i

@@ -3,7 +3,7 @@ use Prim.Native.Nat.{ℕ, _+_, _-_}
 use mathlib.Core.Path.{_≡_, ap, _∙_}
 use native.Mathlib.Omega.{arith}
 use lib.ListN.{take, drop}
-use Rattle.cols_spec.specs.Sets.{marked}
+use Rattle.cols_spec.specs.Sets.{ids-above}
 use Rattle.cols_spec.proofs.Gaps.{marked-free}
 use borrow.Author.Needs.{needs}
 use Rattle.cols_walk.proofs.marks_of_eight.Statement.{statement}
@@ -39,7 +39,7 @@ returns-2 : tie.Need-returns-2
 returns-2 c =
     let a = c .before .before .before .before .before .args in
     let e : a .i + 8 - a .i ≡ 8 = omega arith in
-    c .marks-of .ensures ∙ ap (λ (n : ℕ). marked (a .low) (take n (drop (a .i) (a .ids .now)))) e
+    c .marks-of .ensures ∙ ap (λ (n : ℕ). ids-above (a .low) (take n (drop (a .i) (a .ids .now)))) e
 
 pub marks-of-eight-spec : {M : Type 1} → statement M
 marks-of-eight-spec =

@@ -22,7 +22,7 @@ use Rattle.domain.specs.Tables.{Users, Domain, fresh, name, link, grant,
 use Rattle.domain.specs.Channels.{joined as marked}
 use Rattle.domain.specs.Events.{step, step-with}
 use Rattle.domain.specs.History.{nothing-yet, History, begins, home}
-use Rattle.domain.specs.Claims.{formed, Turn, Run, run, now, past, turned, goes, from-fresh}
+use Rattle.domain.specs.Claims.{formed, Turn, Run, run, now, past, next-run, goes, from-fresh}
 use Rattle.domain.specs.Hearers.{known-as, convened, admitted, entitled, Hearer, kind-of, is-private, manager, admits-place, marked-hear, same-managers, same-admitted, Hearing, who-heard}
 use Rattle.domain.specs.Hearers.{Went-right, Went-marked, All-right, Data-right, All-marked, data-marked, data-heard}
 use Rattle.domain.specs.Tables.{seen}
@@ -149,8 +149,8 @@ pub record Trusted (l : Limits) (r : Run) : Type 0 where
   pub recalls : Recalls (past r) (now r .users) (now r .channels)
 
 -- one event more
-trusted-turned : (l : Limits) (r : Run) (t : Turn) → So (formed (t .0)) → Trusted l r → Trusted l (turned r t)
-unfolding turned now past step
+trusted-turned : (l : Limits) (r : Run) (t : Turn) → So (formed (t .0)) → Trusted l r → Trusted l (next-run r t)
+unfolding next-run now past step
 trusted-turned l r t f x = record {
   faithful = faithful-turned l r t f (x .faithful);
   recalls = recalls-step (past r) (now r) (good-sound (now r) (x .faithful .good)) (x .recalls) (grant (now r .channels)) (grant-free (now r) (x .faithful .good)) (t .0) (t .1);
@@ -203,8 +203,8 @@ module _ (data-on : (Message → Option ℕ)) where
   abbrev Heard-right : Limits → Run → Type 0
   Heard-right l r = Trusted l r × Data-right data-on (past r)
 
-  right-turned : data-marked data-on → (l : Limits) (r : Run) (t : Turn) → So (formed (t .0)) → Heard-right l r → Heard-right l (turned r t)
-  unfolding turned now past
+  right-turned : data-marked data-on → (l : Limits) (r : Run) (t : Turn) → So (formed (t .0)) → Heard-right l r → Heard-right l (next-run r t)
+  unfolding next-run now past
   right-turned law l r t f x =
       let s = good-sound (now r) (x .0 .faithful .good) in
       let hear = private-hear (past r) (now r) s (x .0 .faithful .agrees .homes) (x .0 .recalls) in

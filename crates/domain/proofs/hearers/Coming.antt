@@ -8,7 +8,7 @@ use native.Mathlib.Omega.{arith}
 use lib.Dec.{eqb}
 use lib.ListN.{length, getD}
 use borrow.Author.Tests.{eq-eqb, ne-eqb, eqb-true, leb-false}
-use Rattle.cols_spec.specs.Sets.{if_then_else_, all, has, with, links}
+use Rattle.cols_spec.specs.Sets.{if_then_else_, all, has, with, connections}
 use Rattle.cols_spec.specs.Places.{At, used, spare, store}
 use Rattle.cols_spec.proofs.Marks.{Marks}
 use Rattle.cols_spec.proofs.Rows.{at-set}
@@ -35,7 +35,7 @@ use Rattle.domain.proofs.hearers.Joining.{one, convened-one, admitted-o
 
 -- ---- a connection: no channel has a mark of one that was not open
 pub open-fine : (h : History) (d : Domain) → Sound d → Recalls h (d .users) (d .channels) → (p : ℕ) → has (d .links) p ≡ false
-    → Went h (opens p) (record { reply = 0; domain = put-links d (with links (d .links) p); sent = [] })
+    → Went h (opens p) (record { reply = 0; domain = put-links d (with connections (d .links) p); sent = [] })
 unfolding link-opened event-opens all
 open-fine h d s a p shut = record {
   low = λ c l. convened-silent e h refl c ∙ a .low c l;

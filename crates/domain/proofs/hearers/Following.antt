@@ -5,7 +5,7 @@ use mathlib.Core.List.{[]}
 use Prim.Native.Nat.{ℕ, _≤_}
 use lib.Dec.{ltb}
 use lib.ListN.{length, getD}
-use Rattle.cols_spec.specs.Sets.{if_then_else_, has, with, all, links}
+use Rattle.cols_spec.specs.Sets.{if_then_else_, has, with, all, connections}
 use Rattle.codec_table.specs.Named.{Message, EDrq, DPum, RJum, AUrq, AUcf, DUrq, DUin, CJrq, CJcf, CLrq, CCrq, CCcf, CDrq, CDin, CArq, CAin, CErq, CEin}
 use Rattle.codec_table.specs.Named.{TGrq, TGcf, TIrq, TIcf, TVrq, TVin, TVrs, TVcf, TPrq, TPin, TRrq, TRcf, TTrq, TTcf}
 use Rattle.out_records.specs.Records.{records}
@@ -69,7 +69,7 @@ module _ (h : History) (d : Domain) (s : Sound d) (a : Recalls h (d .users) (d .
   unfolding step-with answers sends event-opens
   follows (opens p) room = go (ltb 15 p) (has (d .links) p) refl
     where
-      go : (b c : Bool) → has (d .links) p ≡ c → Went h (opens p) (if b then stays d 2 else if c then stays d 3 else record { reply = 0; domain = put-links d (with links (d .links) p); sent = [] })
+      go : (b c : Bool) → has (d .links) p ≡ c → Went h (opens p) (if b then stays d 2 else if c then stays d 3 else record { reply = 0; domain = put-links d (with connections (d .links) p); sent = [] })
       go true c e = stay h d a _ 2 refl
       go false true e = stay h d a _ 3 refl
       go false false e = open-fine h d s a p e

@@ -8,7 +8,7 @@ use native.Mathlib.Omega.{arith}
 use lib.Dec.{eqb, ltb}
 use lib.ListN.{length, getD}
 use borrow.Author.Tests.{eq-eqb, ne-eqb, eqb-true, eqb-false, ltb-false}
-use Rattle.cols_spec.specs.Sets.{if_then_else_, any, all, member, has, with, without, only, links, seats}
+use Rattle.cols_spec.specs.Sets.{if_then_else_, any, all, member, has, with, without, only, connections, seats}
 use Rattle.cols_spec.specs.Places.{Place, At, Nowhere, find}
 use Rattle.cols_spec.proofs.Bools.{none≢some, some-is}
 use Rattle.cols_spec.proofs.Marks.{has-none, in-with, in-without}
@@ -20,7 +20,7 @@ use Rattle.domain.specs.declared.channel.Kind.{Kind}
 use Rattle.domain.specs.declared.channel.Kind.the-variants.{Static, User, Private, Assigned}
 use Rattle.domain.specs.declared.channel.Channel.{Channel}
 use Rattle.domain.specs.Cells.{no-channel, kind, channel-of, with-marks}
-use Rattle.domain.specs.Tables.{Users, Channels, Domain, put-channels, channel, add-channel, set-channel, end-channel, sweep-channels, marked, lapses, hosts}
+use Rattle.domain.specs.Tables.{Users, Channels, Domain, put-channels, channel, add-channel, set-channel, end-channel, sweep-channels, narrowed, lapses, hosts}
 use Rattle.domain.specs.Effects.{Effect, ignored, done, within}
 use Rattle.domain.specs.Channels.{may, join-at, join-new, join, joined as has-joined, left, leave-channels, convene, owned, manages, disband}
 use Rattle.domain.specs.Events.{channels-full, Event}
@@ -39,8 +39,8 @@ still-true true x e = refl
 still-true false x e = e
 
 -- a channel with fewer marks is the same channel
-pub marked-is : (ch : Channel) (m : ℕ) (new : Channel) → marked ch m ≡ some new → new ≡ with-marks ch m
-unfolding marked
+pub marked-is : (ch : Channel) (m : ℕ) (new : Channel) → narrowed ch m ≡ some new → new ≡ with-marks ch m
+unfolding narrowed
 marked-is ch m new e = go (lapses (kind ch) && eqb m 0) e
   where
     go : (b : Bool) → (if b then none else some (with-marks ch m)) ≡ some new → new ≡ with-marks ch m
@@ -149,8 +149,8 @@ module _ (h : History) (d : Domain) (s : Sound d) (a : Recalls h (d .users) (d .
       others-told x k m y = told-same h (one ev p answer ▹ h) us x k m m (same-manager x) (same-guests x) (λ q l f. now-told x q ∙ still-true (eqb x c && eqb q p) (told-joined h x q) (f l)) y
 
       -- the channel itself
-      joined-told : (k : Kind) (m : ℕ) → Told h us c k m → Told (one ev p answer ▹ h) us c k (with links m p)
-      joined-told k m y = told-same h (one ev p answer ▹ h) us c k m (with links m p) (same-manager c) (same-guests c)
+      joined-told : (k : Kind) (m : ℕ) → Told h us c k m → Told (one ev p answer ▹ h) us c k (with connections m p)
+      joined-told k m y = told-same h (one ev p answer ▹ h) us c k m (with connections m p) (same-manager c) (same-guests c)
           (λ q l f. now-told c q ∙ in-with 16 m q p l (λ b. still-true (eqb c c && eqb q p) (told-joined h c q) (f b)) (λ e. rw (eq-eqb c c refl, eq-eqb q p e))) y
 
       low-joined : (x : ℕ) → x ≤ 1000 → convened (one ev p answer ▹ h) x ≡ none
@@ -161,7 +161,7 @@ module _ (h : History) (d : Domain) (s : Sound d) (a : Recalls h (d .users) (d .
     unfolding join-at channel set-channel within
     join-at-fine j zero e = record {
       low = low-joined cz;
-      rows = table-set (s .channels-are) (Row _ us) j used (λ i n l y. others-told cz (cid i) (kind (cell i)) (cell i .marks) (a .rows i l)) (with-marks (cell j) (with links (cell j .marks) p))
+      rows = table-set (s .channels-are) (Row _ us) j used (λ i n l y. others-told cz (cid i) (kind (cell i)) (cell i .marks) (a .rows i l)) (with-marks (cell j) (with connections (cell j .marks) p))
           (rw (r .0, kind-marked (cell j), marks-marked (cell j)) (joined-told cz (kind (cell j)) (cell j .marks) (rw (r .0) at (a .rows j used)))) .rows;
     }
       where
@@ -181,9 +181,9 @@ module _ (h : History) (d : Domain) (s : Sound d) (a : Recalls h (d .users) (d .
       assigned = CJcf successful u c (some new)
 
       -- the id new is no private channel's then
-      assigned-fine : c ≡ 0 → channels-full d ≡ false → changes (done (add-channel (d .channels) new (channel-of Assigned (only links p))) (to p assigned ∷ []))
+      assigned-fine : c ≡ 0 → channels-full d ≡ false → changes (done (add-channel (d .channels) new (channel-of Assigned (only connections p))) (to p assigned ∷ []))
       unfolding within notice convening joining admitting
-      assigned-fine z few = made-fine new (omega arith) away few Assigned (only links p) (one ev p assigned ▹ h)
+      assigned-fine z few = made-fine new (omega arith) away few Assigned (only connections p) (one ev p assigned ▹ h)
           (λ y l. conv y ∙ rw (eq-eqb c 0 z, ne-eqb y new (λ e. omega arith)) (a .low y l))
           (λ y n. conv y ∙ rw (eq-eqb c 0 z, n))
           (λ y v n. admitted-one h ev still p assigned (joins c new) refl y v)
@@ -194,9 +194,9 @@ module _ (h : History) (d : Domain) (s : Sound d) (a : Recalls h (d .users) (d .
           conv y = convened-one h ev still p assigned (joins c new) refl y
 
       static-fine : 0 < c → c ≤ 1000 → ((j : ℕ) → cid j ≡ c → ⊥) → channels-full d ≡ false
-          → changes (done (add-channel (d .channels) c (channel-of Static (only links p))) (to p answer ∷ []))
+          → changes (done (add-channel (d .channels) c (channel-of Static (only connections p))) (to p answer ∷ []))
       unfolding within
-      static-fine cz cl gone few = made-fine c cz gone few Static (only links p) (one ev p answer ▹ h)
+      static-fine cz cl gone few = made-fine c cz gone few Static (only connections p) (one ev p answer ▹ h)
           (low-joined cz) (λ y n. same-manager cz y) (λ y v n. same-guests cz y v) (λ y q n. now-told cz y q ∙ rw n) (low-joined cz c cl)
 
       join-new-fine : find (d .channels .ids) c ≡ Nowhere → changes (join-new new (channels-full d) (d .channels) p u c)
@@ -206,8 +206,8 @@ module _ (h : History) (d : Domain) (s : Sound d) (a : Recalls h (d .users) (d .
           go : (b : Bool) → ltb 1000 c ≡ b → (f : Bool) → channels-full d ≡ f → (z : Bool) → eqb c 0 ≡ z
               → changes (if b then done (d .channels) (to p (CJcf no-such-channel u c none) ∷ [])
               else if f then done (d .channels) (to p (CJcf too-many-channels u c none) ∷ [])
-              else if z then done (add-channel (d .channels) new (channel-of Assigned (only links p))) (to p (CJcf successful u c (some new)) ∷ [])
-              else done (add-channel (d .channels) c (channel-of Static (only links p))) (to p (CJcf successful u c (some c)) ∷ []))
+              else if z then done (add-channel (d .channels) new (channel-of Assigned (only connections p))) (to p (CJcf successful u c (some new)) ∷ [])
+              else done (add-channel (d .channels) c (channel-of Static (only connections p))) (to p (CJcf successful u c (some c)) ∷ []))
           go true b f g z i = says p _ refl
           go false b true g z i = says p _ refl
           go false b false g true i = assigned-fine (eqb-true c 0 i) g
@@ -269,11 +269,11 @@ module _ (h : History) (d : Domain) (s : Sound d) (a : Recalls h (d .users) (d .
   unfolding leave-channels left within all
   leave-channels-fine p cs = go (any (has-joined (d .channels) p) cs)
     where
-      row : (j c : ℕ) (ch : Channel) → Row h us j c ch → (b : Bool) (new : Channel) → (if b then marked ch (without links (ch .marks) p) else some ch) ≡ some new
+      row : (j c : ℕ) (ch : Channel) → Row h us j c ch → (b : Bool) (new : Channel) → (if b then narrowed ch (without connections (ch .marks) p) else some ch) ≡ some new
           → Row (record { event = ev; reply = 0; sent = [] } ▹ h) us j c new
       row j c ch r true new e =
-          rw (marked-is ch _ new e, kind-marked ch (without links (ch .marks) p), marks-marked ch (without links (ch .marks) p))
-          (told-less [] refl c (kind ch) (ch .marks) (without links (ch .marks) p) (λ q l. in-without 16 (ch .marks) q p l .0) r)
+          rw (marked-is ch _ new e, kind-marked ch (without connections (ch .marks) p), marks-marked ch (without connections (ch .marks) p))
+          (told-less [] refl c (kind ch) (ch .marks) (without connections (ch .marks) p) (λ q l. in-without 16 (ch .marks) q p l .0) r)
       row j c ch r false new e = rw (some-is e) (told-less [] refl c (kind ch) (ch .marks) (ch .marks) (λ q l. l) r)
 
       go : (b : Bool) → changes (if b then done (sweep-channels (left p cs) (d .channels)) [] else ignored)

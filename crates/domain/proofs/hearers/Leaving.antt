@@ -6,7 +6,7 @@ use mathlib.Core.Option.{none, some}
 use Prim.Native.Nat.{ℕ}
 use native.Mathlib.Omega.{arith}
 use lib.ListN.{getD}
-use Rattle.cols_spec.specs.Sets.{if_then_else_, null, all, once, has, with, without, minus, meet, links, seats}
+use Rattle.cols_spec.specs.Sets.{if_then_else_, null, all, once, has, with, without, minus, meet, connections, seats}
 use Rattle.cols_spec.specs.Places.{Place, At, Nowhere, find, inOrder, turns-to}
 use Rattle.cols_spec.proofs.Bools.{none≢some, some-is}
 use Rattle.cols_spec.proofs.Digits.{has-those}
@@ -17,8 +17,8 @@ use Rattle.domain.specs.declared.channel.Kind.{Kind}
 use Rattle.domain.specs.declared.channel.Kind.the-variants.{Static, User, Private, Assigned}
 use Rattle.domain.specs.declared.channel.Channel.{Channel}
 use Rattle.domain.specs.Cells.{no-channel, kind, channel-of, with-guests}
-use Rattle.domain.specs.Tables.{Users, Domain, stays-on, remove-users, marked, hosts}
-use Rattle.domain.specs.Channels.{places, private}
+use Rattle.domain.specs.Tables.{Users, Domain, stays-on, remove-users, narrowed, hosts}
+use Rattle.domain.specs.Channels.{places, private-marks}
 use Rattle.domain.specs.Effects.{ignored}
 use Rattle.domain.specs.Leaving.{fate-of, fate, farewell, leave, those-on, detach, close}
 use Rattle.domain.specs.Events.{Event}
@@ -63,7 +63,7 @@ module _ (h : History) (d : Domain) (s : Sound d) (a : Recalls h (d .users) (d .
     sits i l q = sweep-used (s .users-are) (UserRow live (d .channels)) (stays-on gone) i l (some (getD (us .at) i 0)) (rw q) .0
 
     -- a channel that is not private stays so, where it stays
-    kind-then : (ch : Channel) (n : ℕ) (new : Channel) → marked ch n ≡ some new → kind new ≡ kind ch
+    kind-then : (ch : Channel) (n : ℕ) (new : Channel) → narrowed ch n ≡ some new → kind new ≡ kind ch
     kind-then ch n new e = ap kind (marked-is ch n new e) ∙ kind-marked ch n
 
     same-none : (c : ℕ) → convened h c ≡ none → convened (heard ▹ h) c ≡ none
@@ -72,15 +72,15 @@ module _ (h : History) (d : Domain) (s : Sound d) (a : Recalls h (d .users) (d .
     -- what becomes of a channel
     fate-told : (j c : ℕ) (ch : Channel) (k : Kind) → kind ch ≡ k → ch ≡ channel-of k (ch .marks) → Sort us c k (ch .marks) → Told h us c k (ch .marks)
         → (new : Channel) → fate-of us gone live c ch k ≡ some new → Row (heard ▹ h) us′ j c new
-    unfolding fate-of private minus
+    unfolding fate-of private-marks minus
     fate-told j c ch Static q p x t new e = rw (kind-then ch _ new e ∙ q) (same-none c t)
     fate-told j c ch User q p x t new e = go (find (us .ids) c) e
       where
-        on : (b : Bool) → (if b then none else marked ch (meet links (ch .marks) live)) ≡ some new → Row (heard ▹ h) us′ j c new
+        on : (b : Bool) → (if b then none else narrowed ch (meet connections (ch .marks) live)) ≡ some new → Row (heard ▹ h) us′ j c new
         on true f = absurd (none≢some f)
         on false f = rw (kind-then ch _ new f ∙ q) (same-none c t)
 
-        go : (w : Place) → own-fate gone ch (meet links (ch .marks) live) w ≡ some new → Row (heard ▹ h) us′ j c new
+        go : (w : Place) → own-fate gone ch (meet connections (ch .marks) live) w ≡ some new → Row (heard ▹ h) us′ j c new
         go (At i) f = on (has gone i) f
         go Nowhere f = on false f
     fate-told j c ch (Private g adm) q p x t new e = go (has gone g) refl e
@@ -89,7 +89,7 @@ module _ (h : History) (d : Domain) (s : Sound d) (a : Recalls h (d .users) (d .
         fewer = minus seats adm gone
 
         marks′ : ℕ
-        marks′ = meet links (meet links (ch .marks) live) (hosts us (with seats fewer g))
+        marks′ = meet connections (meet connections (ch .marks) live) (hosts us (with seats fewer g))
 
         kept : (i : ℕ) → Seated us′ i → has adm i ≡ has fewer i
         kept i l = let r = sat i l in
@@ -99,7 +99,7 @@ module _ (h : History) (d : Domain) (s : Sound d) (a : Recalls h (d .users) (d .
         after z = record {
           chaired = convened-silent heard h dull c ∙ t .chaired ∙ ap some (sym (sits g (x .2 .manager) z));
           guests = λ i l. admitted-silent heard h dull c _ ∙ rw (sat i l .0) (t .guests i (rw (sat i l .0) at l)) ∙ kept i l;
-          marks = λ p l. joined-hushed h d s a ev still rs dull c p ∙ t .marks p (in-meet 16 (ch .marks) p live (in-meet 16 (meet links (ch .marks) live) p _ l .0) .0);
+          marks = λ p l. joined-hushed h d s a ev still rs dull c p ∙ t .marks p (in-meet 16 (ch .marks) p live (in-meet 16 (meet connections (ch .marks) live) p _ l .0) .0);
         }
 
         go : (b : Bool) → has gone g ≡ b → (if b then none else some (with-guests ch fewer marks′)) ≡ some new → Row (heard ▹ h) us′ j c new
@@ -131,4 +131,4 @@ module _ (h : History) (d : Domain) (s : Sound d) (a : Recalls h (d .users) (d .
   -- DPum, RJum, loss
   pub close-fine : (p : ℕ) → fine h ev (close d p)
   unfolding close
-  close-fine p = leave-fine (without links (d .links) p) 0 (those-on us p (inOrder (us .ids)))
+  close-fine p = leave-fine (without connections (d .links) p) 0 (those-on us p (inOrder (us .ids)))

@@ -8,7 +8,7 @@ use native.Mathlib.Omega.{arith}
 use lib.Dec.{eqb}
 use lib.ListN.{length, getD}
 use borrow.Author.Tests.{eq-eqb, ne-eqb}
-use Rattle.cols_spec.specs.Sets.{if_then_else_, null, has, with, minus, meet, union, member, links, seats}
+use Rattle.cols_spec.specs.Sets.{if_then_else_, null, has, with, minus, meet, union, member, connections, seats}
 use Rattle.cols_spec.specs.Places.{At, find}
 use Rattle.cols_spec.proofs.Digits.{has-those}
 use Rattle.cols_spec.proofs.Marks.{has-low, in-meet}
@@ -21,7 +21,7 @@ use Rattle.domain.specs.declared.channel.Channel.{Channel}
 use Rattle.domain.specs.Cells.{no-channel, kind, channel-of, with-guests}
 use Rattle.domain.specs.Tables.{Users, Channels, Domain, link, channel, set-channel, hosts}
 use Rattle.domain.specs.Effects.{Effect, ignored, done, within}
-use Rattle.domain.specs.Channels.{places, own, attached-of, admitted-of, admit, private, expel}
+use Rattle.domain.specs.Channels.{places, own, attached-of, admitted-of, admit, private-marks, expel}
 use Rattle.domain.specs.Events.{Event}
 use Rattle.domain.specs.History.{Entry, History, _▹_}
 use Rattle.domain.specs.Hearers.{notice, convening, convened, event-opens, joining, told-joined, admitting, admitted}
@@ -139,10 +139,10 @@ module _ (h : History) (d : Domain) (s : Sound d) (a : Recalls h (d .users) (d .
       (λ i l. has-those 64 (λ k. has adm k || has (places us (attached-of us ids)) k) i l ∙ listed-in (has (places us (attached-of us ids)) i) (has adm i)) (λ q l. l)))
 
   pub expel-fine : (p u c : ℕ) (ids : List ℕ) → changes h d s a ev still (expel us (d .channels) p u c ids)
-  unfolding expel private channel notice convening joining admitting minus
+  unfolding expel private-marks channel notice convening joining admitting minus
   expel-fine p u c ids = manages-fine h d s a ev still p u c _ (λ j m adm e q.
       either (null (admitted-of us adm ids)) _
       (named-fine c (CEin c) false (λ x v p xs b. refl) (λ x p xs g. refl) (λ x q p xs b. refl) (admitted-of us adm ids) j m adm e q (minus seats adm (places us (admitted-of us adm ids)))
-      (meet links (cell j .marks) (hosts us (with seats (minus seats adm (places us (admitted-of us adm ids))) m)))
+      (meet connections (cell j .marks) (hosts us (with seats (minus seats adm (places us (admitted-of us adm ids))) m)))
       (λ i l. has-those 64 (λ k. has adm k && not (has (places us (admitted-of us adm ids)) k)) i l ∙ listed-out (has (places us (admitted-of us adm ids)) i) (has adm i))
       (λ p l. in-meet 16 (cell j .marks) p _ l .0)))

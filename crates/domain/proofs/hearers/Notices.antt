@@ -6,7 +6,7 @@ use mathlib.Core.List.{List, [], _∷_, _++_}
 use Prim.Native.Nat.{ℕ, _<_}
 use lib.Dec.{eqb}
 use borrow.Author.Tests.{eq-eqb}
-use Rattle.cols_spec.specs.Sets.{if_then_else_, any, all, each, keep, null, below, member, links}
+use Rattle.cols_spec.specs.Sets.{if_then_else_, any, all, each, keep, null, below, member, connections}
 use Rattle.cols_spec.specs.Places.{At, Nowhere, find, found}
 use Rattle.cols_spec.proofs.Bools.{and-parts}
 use Rattle.cols_spec.proofs.Below.{any-same, any-hit, any-none}
@@ -98,8 +98,8 @@ module _ {A : Type 0} (hear : ℕ → Notice → A → A) where
     pub own-same : ((p : ℕ) (xs : List ℕ) (a : A) → hear p (notice (say xs)) a ≡ a) → (ids : List ℕ) (a : A) → through hear (own us ids say) a ≡ a
     unfolding own through
     own-same law ids a =
-        through-each _ (λ q. false) a (λ q b. go q b (keep (λ u. found (attached us q u)) ids) (null (keep (λ u. found (attached us q u)) ids))) (below links) a
-        ∙ rw (any-none (λ q. false) (λ q. refl) (below links))
+        through-each _ (λ q. false) a (λ q b. go q b (keep (λ u. found (attached us q u)) ids) (null (keep (λ u. found (attached us q u)) ids))) (below connections) a
+        ∙ rw (any-none (λ q. false) (λ q. refl) (below connections))
       where
         go : (q : ℕ) (b : A) (xs : List ℕ) (n : Bool) → through hear (if n then [] else to q (say xs) ∷ []) b ≡ b
         go q b xs true = refl
@@ -111,8 +111,8 @@ module _ {A : Type 0} (hear : ℕ → Notice → A → A) where
         → (ids : List ℕ) (a : A) → through hear (own us ids say) a ≡ (if z && member v ids then t else a)
     unfolding own through null found attached
     own-names v i here low z t law ids a =
-        through-each _ (λ q. z && member v (keep (λ u. found (attached us q u)) ids)) t (λ q b. go q b (keep (λ u. found (attached us q u)) ids)) (below links) a
-        ∙ ap (λ (b : Bool). if b then t else a) (any-same _ _ (λ q. ap (λ (b : Bool). z && b) (mine q)) (below links) ∙ hosted z (member v ids))
+        through-each _ (λ q. z && member v (keep (λ u. found (attached us q u)) ids)) t (λ q b. go q b (keep (λ u. found (attached us q u)) ids)) (below connections) a
+        ∙ ap (λ (b : Bool). if b then t else a) (any-same _ _ (λ q. ap (λ (b : Bool). z && b) (mine q)) (below connections) ∙ hosted z (member v ids))
       where
         go : (q : ℕ) (b : A) (xs : List ℕ) → through hear (if null xs then [] else to q (say xs) ∷ []) b ≡ (if z && member v xs then t else b)
         go q b [] = rw (nobody-listed v, and-false z)
@@ -125,7 +125,7 @@ module _ {A : Type 0} (hear : ℕ → Notice → A → A) where
         mine : (q : ℕ) → member v (keep (λ u. found (attached us q u)) ids) ≡ (eqb (link us i) q && member v ids)
         mine q = member-keep (λ u. found (attached us q u)) v ids ∙ rw (here, attached) (ap (λ (b : Bool). b && member v ids) (on q (eqb (link us i) q)))
 
-        hosted : (b c : Bool) → any (λ q. b && (eqb (link us i) q && c)) (below links) ≡ (b && c)
+        hosted : (b c : Bool) → any (λ q. b && (eqb (link us i) q && c)) (below connections) ≡ (b && c)
         hosted true true = any-hit _ 16 [] (link us i) low (rw (eq-eqb (link us i) (link us i) refl))
-        hosted true false = any-none _ (λ q. and-false (eqb (link us i) q)) (below links)
-        hosted false c = any-none _ (λ q. refl) (below links)
+        hosted true false = any-none _ (λ q. and-false (eqb (link us i) q)) (below connections)
+        hosted false c = any-none _ (λ q. refl) (below connections)

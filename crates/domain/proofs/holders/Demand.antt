@@ -17,7 +17,7 @@ use Rattle.domain.specs.Tokens.{grab, inhibit}
 use Rattle.domain.specs.Passing.{take-token, share-token}
 use Rattle.domain.specs.Good.{Good}
 use Rattle.domain.specs.History.{History, nothing-yet, begins, grabs, inhibits, code, same, reading, home, gain, open-offer, busy, count}
-use Rattle.domain.specs.Claims.{Turn, Run, run, now, past, turned, goes, from-fresh, formed, Claims, demand-3}
+use Rattle.domain.specs.Claims.{Turn, Run, run, now, past, next-run, goes, from-fresh, formed, Claims, demand-3}
 use Rattle.domain.proofs.invariant.Fresh.{fresh-good}
 use Rattle.domain.proofs.invariant.Sound.{Sound}
 use Rattle.domain.proofs.invariant.GoodIsSound.{good-sound}
@@ -57,8 +57,8 @@ faithful-fresh l r = record {
 -- ---- the claims
 
 -- one turn
-pub faithful-turned : (l : Limits) (r : Run) (t : Turn) → So (formed (t .0)) → Faithful l r → Faithful l (turned r t)
-unfolding turned now past step
+pub faithful-turned : (l : Limits) (r : Run) (t : Turn) → So (formed (t .0)) → Faithful l r → Faithful l (next-run r t)
+unfolding next-run now past step
 faithful-turned l r t f s =
     let w = agrees-step (past r) (now r) (s .good) (s .agrees) (grant (now r .channels)) (grant-free (now r) (s .good)) (t .0) (t .1) f in
     record {

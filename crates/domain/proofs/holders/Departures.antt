@@ -8,7 +8,7 @@ use native.Mathlib.Omega.{arith}
 use lib.Dec.{eqb}
 use borrow.Author.Tests.{ne-eqb}
 use Rattle.cols_spec.specs.Places.{Place, At, Nowhere, find, inOrder}
-use Rattle.cols_spec.specs.Sets.{if_then_else_, has, minus, seats, links, without, all, any, null, member, once}
+use Rattle.cols_spec.specs.Sets.{if_then_else_, has, minus, seats, connections, without, all, any, null, member, once}
 use Rattle.codec_table.specs.Named.{DUrq}
 use Rattle.out_records.specs.Records.{Sent}
 use Rattle.cols_spec.proofs.Digits.{has-those, eqb-sym}
@@ -182,5 +182,5 @@ module _ (h : History) (d : Domain) (g : Sound d) (a : Agrees h (d .users) (d .t
     pub close-fine : fine h d ev (close d p)
     unfolding close
     close-fine =
-        leave-fine ev (without links (d .links) p) 0 (those-on (d .users) p (inOrder (d .users .ids))) (λ rs w q u k. said-close rs (home h u) w u k)
+        leave-fine ev (without connections (d .links) p) 0 (those-on (d .users) p (inOrder (d .users .ids))) (λ rs w q u k. said-close rs (home h u) w u k)
         (λ rs. gone-away (shut rs) p (inOrder (d .users .ids)) (leaves-close rs))

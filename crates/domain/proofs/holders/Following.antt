@@ -6,7 +6,7 @@ use Prim.Native.Nat.{ℕ, _<_}
 use native.Mathlib.Omega.{arith}
 use lib.Dec.{ltb}
 use lib.ListN.{length, getD}
-use Rattle.cols_spec.specs.Sets.{if_then_else_, has, with, all, links}
+use Rattle.cols_spec.specs.Sets.{if_then_else_, has, with, all, connections}
 use Rattle.codec_table.specs.Named.{Message, EDrq, DPum, RJum, AUrq, AUcf, DUrq, DUin, CJrq, CJcf, CLrq, CCrq, CCcf, CDrq, CDin, CArq, CAin, CErq, CEin}
 use Rattle.codec_table.specs.Named.{TGrq, TGcf, TIrq, TIcf, TVrq, TVin, TVrs, TVcf, TPrq, TPin, TRrq, TRcf, TTrq, TTcf, formed as formed-message}
 use Rattle.codec_table.proofs.NamedLaws.{ranges}
@@ -75,7 +75,7 @@ module _ (h : History) (d : Domain) (g : Sound d) (a : Agrees h (d .users) (d .t
   unfolding step-with answers formed sends all asks link-of
   follows (opens p) room f = go (ltb 15 p) (has (d .links) p)
     where
-      go : (b c : Bool) → Went h d (opens p) (if b then stays d 2 else if c then stays d 3 else record { reply = 0; domain = put-links d (with links (d .links) p); sent = [] })
+      go : (b c : Bool) → Went h d (opens p) (if b then stays d 2 else if c then stays d 3 else record { reply = 0; domain = put-links d (with connections (d .links) p); sent = [] })
       go true c = stay h d a _ 2 refl
       go false true = stay h d a _ 3 refl
       go false false = quiet h d a _ _ (idle-unread _ refl) refl refl refl refl

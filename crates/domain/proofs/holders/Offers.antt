@@ -15,7 +15,7 @@ use Rattle.cols_spec.proofs.Bools.{none≢some}
 use Rattle.domain.specs.declared.token.Holding.{Holding}
 use Rattle.domain.specs.declared.token.Holding.the-variants.{Free, Grabbed, Inhibited, Giving, Given}
 use Rattle.domain.specs.Tables.{Tokens, Domain, name, link, state, is-free, set-token, put-tokens}
-use Rattle.domain.specs.Tokens.{grabbed-by, offered-to, answered, status}
+use Rattle.domain.specs.Tokens.{grabbed-by, offered-to, responded, status}
 use Rattle.domain.specs.Events.{Event, hears, reads}
 use Rattle.domain.specs.Effects.{Effect, ignored, done, within}
 use Rattle.domain.specs.Passing.{offer, answer, informed}
@@ -113,12 +113,12 @@ module _ (p n r k : ℕ) (rs : List Sent) where
 
 -- the state that an answer leaves stands to each place as history hears
 giving-law : (b : Bool) (x i j : ℕ)
-    → shifts (if b then yields else other) (if b then accepts else declines) (eqb x j) (eqb i j) (stand (Giving x i) j) ≡ stand (answered b (Giving x i) i) j
-unfolding stand answered same code
+    → shifts (if b then yields else other) (if b then accepts else declines) (eqb x j) (eqb i j) (stand (Giving x i) j) ≡ stand (responded b (Giving x i) i) j
+unfolding stand responded same code
 giving-law b x i j = go b (eqb x j) (eqb i j) refl refl
   where
     go : (b c f : Bool) → eqb x j ≡ c → eqb i j ≡ f
-        → shifts (if b then yields else other) (if b then accepts else declines) (eqb x j) (eqb i j) (if eqb x j then by-grab else nothing, eqb i j) ≡ stand (answered b (Giving x i) i) j
+        → shifts (if b then yields else other) (if b then accepts else declines) (eqb x j) (eqb i j) (if eqb x j then by-grab else nothing, eqb i j) ≡ stand (responded b (Giving x i) i) j
     go true true true q r = rw (q, r)
     go true true false q r = rw (q, r)
     go true false true q r = rw (q, r)
@@ -128,11 +128,11 @@ giving-law b x i j = go b (eqb x j) (eqb i j) refl refl
     go false false true q r = rw (q, r)
     go false false false q r = rw (q, r)
 
-given-law : (b : Bool) (i j : ℕ) → shifts other (if b then accepts else declines) (eqb i j) (eqb i j) (stand (Given i) j) ≡ stand (answered b (Given i) i) j
-unfolding stand answered same code
+given-law : (b : Bool) (i j : ℕ) → shifts other (if b then accepts else declines) (eqb i j) (eqb i j) (stand (Given i) j) ≡ stand (responded b (Given i) i) j
+unfolding stand responded same code
 given-law b i j = go b (eqb i j) refl
   where
-    go : (b f : Bool) → eqb i j ≡ f → shifts other (if b then accepts else declines) (eqb i j) (eqb i j) (nothing, eqb i j) ≡ stand (answered b (Given i) i) j
+    go : (b f : Bool) → eqb i j ≡ f → shifts other (if b then accepts else declines) (eqb i j) (eqb i j) (nothing, eqb i j) ≡ stand (responded b (Given i) i) j
     go true true r = rw r
     go true false r = rw r
     go false true r = rw r
@@ -151,8 +151,8 @@ module _ (h : History) (d : Domain) (g : Sound d) (a : Agrees h (d .users) (d .t
         → state (d .tokens) k ≡ was → is-free was ≡ false → find (d .users .ids) x ≡ At c
         → ((u : ℕ) → leaves (answers p n r k rs) (home h u) u ≡ false → home (answers p n r k rs ▹ h) u ≡ home h u)
         → ((w : Word) → read-word w → (u j : ℕ) → told (answers p n r k rs) w u j ≡ (eqb j k && eqb u x && same w sw))
-        → ((j : ℕ) → shifts sw (reply-word p n r k rs) (eqb c j) (eqb i j) (stand was j) ≡ stand (answered (eqb n successful) was i) j)
-        → fine h d ev (done (put-tokens d (set-token (d .tokens) k (answered (eqb n successful) was i))) rs)
+        → ((j : ℕ) → shifts sw (reply-word p n r k rs) (eqb c j) (eqb i j) (stand was j) ≡ stand (responded (eqb n successful) was i) j)
+        → fine h d ev (done (put-tokens d (set-token (d .tokens) k (responded (eqb n successful) was i))) rs)
     settles was rs x c sw s busy theirs homely tells law = record {
       agrees = token-agrees h (d .users) (d .tokens) a (omega (arith, g .users-are .ids-size)) (answers p n r k rs) (set-token (d .tokens) k now) k x r sw (reply-word p n r k rs) was now
           s (state-then d g k now kz seated (λ z y. absurd (false≢true (sym busy ∙ ap is-free (sym s) ∙ z)))) c i theirs mine here (λ u. homely u (here u)) tells
@@ -162,7 +162,7 @@ module _ (h : History) (d : Domain) (g : Sound d) (a : Agrees h (d .users) (d .t
     }
       where
         now : Holding
-        now = answered (eqb n successful) was i
+        now = responded (eqb n successful) was i
 
         here : (u : ℕ) → leaves (answers p n r k rs) (home h u) u ≡ false
         here u = leaves-answer p n r k rs (home h u) u
@@ -176,7 +176,7 @@ module _ (h : History) (d : Domain) (g : Sound d) (a : Agrees h (d .users) (d .t
     no-newcomer false = refl
 
     abbrev effect : Holding → Effect Tokens
-    effect s = done (set-token (d .tokens) k (answered (eqb n successful) s i)) (informed (d .users) n k s (answered (eqb n successful) s i))
+    effect s = done (set-token (d .tokens) k (responded (eqb n successful) s i)) (informed (d .users) n k s (responded (eqb n successful) s i))
 
     from-giving : (x : ℕ) → state (d .tokens) k ≡ Giving x i → fine h d ev (within (put-tokens d) (effect (Giving x i)))
     unfolding reading is-free informed within
@@ -188,7 +188,7 @@ module _ (h : History) (d : Domain) (g : Sound d) (a : Agrees h (d .users) (d .t
         (λ j. giving-law (eqb n successful) x i j)
       where
         m : Message
-        m = TVcf n (name (d .users) x) k (status (answered (eqb n successful) (Giving x i) i) x)
+        m = TVcf n (name (d .users) x) k (status (responded (eqb n successful) (Giving x i) i) x)
 
     from-given : state (d .tokens) k ≡ Given i → fine h d ev (within (put-tokens d) (effect (Given i)))
     unfolding told any home arrives is-free mutes same code informed within

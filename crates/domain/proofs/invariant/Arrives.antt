@@ -7,7 +7,7 @@ use Prim.Native.Nat.{ℕ, _≤_, _<_}
 use native.Mathlib.Omega.{arith}
 use lib.ListN.{getD}
 use borrow.Author.Tests.{leb-false}
-use Rattle.cols_spec.specs.Sets.{if_then_else_, has, with, links}
+use Rattle.cols_spec.specs.Sets.{if_then_else_, has, with, connections}
 use Rattle.cols_spec.specs.Places.{used}
 use Rattle.cols_spec.proofs.Digits.{those-lt}
 use Rattle.cols_spec.proofs.Marks.{in-with, has-low, with-old, marks-map, marks-none}
@@ -127,7 +127,7 @@ module _ (d : Domain) (s : Sound d) where
         go false e false f = attached-sound e f
 
   -- ---- a connection
-  pub open-sound : (p : ℕ) → Sound (put-links d (with links (d .links) p))
+  pub open-sound : (p : ℕ) → Sound (put-links d (with connections (d .links) p))
   unfolding with
   open-sound p = record {
     limits-ok = s .limits-ok;
@@ -137,5 +137,5 @@ module _ (d : Domain) (s : Sound d) where
     tokens-are = s .tokens-are;
   }
     where
-      more : (q : ℕ) → has (d .links) q ≡ true → has (with links (d .links) p) q ≡ true
+      more : (q : ℕ) → has (d .links) q ≡ true → has (with connections (d .links) p) q ≡ true
       more q h = with-old 16 (d .links) q p (has-low 16 (d .links) q (s .links-fit) h) h

@@ -18,7 +18,7 @@ use Rattle.domain.specs.declared.token.Holding.{Holding}
 use Rattle.domain.specs.declared.token.Holding.the-variants.{Free, Grabbed, Inhibited, Giving, Given}
 use Rattle.domain.specs.Cells.{no-token, hold, token-of}
 use Rattle.domain.specs.Tables.{Users, Tokens, Domain, link, state, is-free, set-token, put-tokens, at-limit}
-use Rattle.domain.specs.Tokens.{Turned, fails, turns, status, grab, inhibit, release, inhibited, grabbed-by, offered-to, answered, lose-offer, lose}
+use Rattle.domain.specs.Tokens.{Turned, fails, turns, status, grab, inhibit, release, inhibited, grabbed-by, offered-to, responded, lose-offer, lose}
 use Rattle.domain.specs.Effects.{Effect, ignored, done, from, within}
 use Rattle.domain.specs.Passing.{turn, take-token, share-token, drop-token, offer, informed, answer}
 use Rattle.domain.specs.Events.{tokens-full}
@@ -89,8 +89,8 @@ module _ (us : Users) (sized : length (us .ids) ≡ 64) (i : ℕ) (here : Seated
   release-right full (Given r) x = tt
 
   -- TVrs
-  pub answered-held : (b : Bool) (h : Holding) → Held us h → Held us (answered b h i)
-  unfolding answered
+  pub answered-held : (b : Bool) (h : Holding) → Held us h → Held us (responded b h i)
+  unfolding responded
   answered-held true h x = here
   answered-held false Free x = tt
   answered-held false (Grabbed g) x = x
@@ -240,8 +240,8 @@ module _ (d : Domain) (s : Sound d) where
       answer-fine n = from-fine (put-tokens d) d s p u _ (λ i w. offered i w (offered-to (state (d .tokens) k) i) refl)
         where
           offered : (i : ℕ) → Sits (d .users) p u i → (b : Bool) → offered-to (state (d .tokens) k) i ≡ b
-              → Fine (within (put-tokens d) (if b then done (set-token (d .tokens) k (answered (eqb n successful) (state (d .tokens) k) i))
-              (informed (d .users) n k (state (d .tokens) k) (answered (eqb n successful) (state (d .tokens) k) i)) else ignored))
+              → Fine (within (put-tokens d) (if b then done (set-token (d .tokens) k (responded (eqb n successful) (state (d .tokens) k) i))
+              (informed (d .users) n k (state (d .tokens) k) (responded (eqb n successful) (state (d .tokens) k) i)) else ignored))
           offered i w true b =
               token-set k _ lo hi (answered-held (d .users) (s .users-are .ids-size) i (w .seated) (eqb n successful) (state (d .tokens) k) (state-held k))
               (λ z y. absurd (false≢true (sym (busy-by (λ h. offered-to h i) refl (state (d .tokens) k) b) ∙ z)))

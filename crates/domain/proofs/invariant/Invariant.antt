@@ -15,7 +15,7 @@ use Rattle.domain.specs.Tables.{Domain, fresh, grant, in-range, Free-id}
 use Rattle.domain.specs.Events.{Event, step}
 use Rattle.domain.specs.Good.{Good}
 use Rattle.domain.specs.History.{nothing-yet, begins}
-use Rattle.domain.specs.Claims.{formed, good-step, Turn, Run, run, now, turned, goes, from-fresh}
+use Rattle.domain.specs.Claims.{formed, good-step, Turn, Run, run, now, next-run, goes, from-fresh}
 use Rattle.domain.proofs.invariant.Sound.{is-between, free-parts}
 use Rattle.domain.proofs.invariant.Kept.{sound-step}
 use Rattle.domain.proofs.invariant.Fresh.{fresh-good}
@@ -45,14 +45,14 @@ module _ (d : Domain) (g : Good d) where
   good-next e room f = step-good d (grant (d .channels)) e room g f grant-free
 
 -- what every turn keeps, every run keeps
-pub goes-by : (P : (Run → Type 0)) → ((r : Run) (t : Turn) → So (formed (t .0)) → P r → P (turned r t)) → (ts : List Turn) (r : Run) → So (all (λ t. formed (t .0)) ts) → P r → P (goes r ts)
+pub goes-by : (P : (Run → Type 0)) → ((r : Run) (t : Turn) → So (formed (t .0)) → P r → P (next-run r t)) → (ts : List Turn) (r : Run) → So (all (λ t. formed (t .0)) ts) → P r → P (goes r ts)
 unfolding goes all
 goes-by P f [] r h p = p
-goes-by P f (t ∷ ts) r h p = let q = and-parts (formed (t .0)) (all (λ u. formed (u .0)) ts) h in goes-by P f ts (turned r t) (q .1) (f r t (q .0) p)
+goes-by P f (t ∷ ts) r h p = let q = and-parts (formed (t .0)) (all (λ u. formed (u .0)) ts) h in goes-by P f ts (next-run r t) (q .1) (f r t (q .0) p)
 
 -- after any formed events, with any rooms, from any good tables
 pub good-goes : (ts : List Turn) (r : Run) → So (all (λ t. formed (t .0)) ts) → Good (now r) → Good (now (goes r ts))
-unfolding now turned
+unfolding now next-run
 good-goes ts r f g = goes-by (λ r. Good (now r)) (λ r t q g. good-next (now r) g (t .0) (t .1) q) ts r f g
 
 -- and so from any limits in range

@@ -8,7 +8,7 @@ use native.Mathlib.Omega.{arith}
 use lib.Dec.{eqb, ltb}
 use lib.ListN.{length, getD}
 use borrow.Author.Tests.{eqb-true, eqb-false, ltb-false}
-use Rattle.cols_spec.specs.Sets.{if_then_else_, any, null, member, has, with, without, minus, union, only, links, seats}
+use Rattle.cols_spec.specs.Sets.{if_then_else_, any, null, member, has, with, without, minus, union, only, connections, seats}
 use Rattle.cols_spec.specs.Places.{Place, At, Nowhere, find}
 use Rattle.cols_spec.proofs.Bools.{or-elim, some-is}
 use Rattle.cols_spec.proofs.Below.{any-elim}
@@ -21,9 +21,9 @@ use Rattle.domain.specs.declared.channel.Kind.{Kind}
 use Rattle.domain.specs.declared.channel.Kind.the-variants.{Static, User, Private, Assigned}
 use Rattle.domain.specs.declared.channel.Channel.{Channel}
 use Rattle.domain.specs.Cells.{no-channel, kind, channel-of, with-marks, with-guests}
-use Rattle.domain.specs.Tables.{Users, Channels, Domain, channel, put-channels, add-channel, set-channel, sweep-channels, marked}
+use Rattle.domain.specs.Tables.{Users, Channels, Domain, channel, put-channels, add-channel, set-channel, sweep-channels, narrowed}
 use Rattle.domain.specs.Effects.{Effect, ignored, done, within}
-use Rattle.domain.specs.Channels.{may, join-at, join-new, join, joined, left, leave-channels, convene, owned, manages, disband, stands, places, own, attached-of, admitted-of, admit, private, expel}
+use Rattle.domain.specs.Channels.{may, join-at, join-new, join, joined, left, leave-channels, convene, owned, manages, disband, stands, places, own, attached-of, admitted-of, admit, private-marks, expel}
 use Rattle.domain.specs.Events.{channels-full}
 use Rattle.domain.proofs.invariant.Sound.{Seated, Host, Owned, Sort, ChannelRow, Sound, Fine}
 use Rattle.domain.proofs.invariant.Seats.{kind-of, with-marks-of, seated-low}
@@ -34,20 +34,20 @@ use Rattle.domain.proofs.invariant.Rooms.{Open, in-hosts, guests-change
 
 module _ (us : Users) (sized : length (us .ids) ≡ 64) (apart : Apart (us .ids)) (p u i : ℕ) (w : Sits us p u i) (pl : p < 16) where
   -- p is joined, so somebody is
-  one-more : (m : ℕ) → 0 < with links m p
-  one-more m = has-pos (with links m p) p (with-new 16 m p pl)
+  one-more : (m : ℕ) → 0 < with connections m p
+  one-more m = has-pos (with connections m p) p (with-new 16 m p pl)
 
   -- a member at place i is on p
   host-here : (who : ℕ) → has who i ≡ true → Host us who p
   host-here who h = record { place = i; in-mask = h; there = w .on }
 
   -- who may join leaves the rules of the channel's kind
-  pub join-sort : (c : ℕ) (k : Kind) (m : ℕ) → Sort us c k m → may k c u i ≡ 0 → Sort us c k (with links m p)
+  pub join-sort : (c : ℕ) (k : Kind) (m : ℕ) → Sort us c k m → may k c u i ≡ 0 → Sort us c k (with connections m p)
   unfolding may
   join-sort c Static m x e = (x .0, x .1, one-more m)
   join-sort c User m x e = go (eqb c u) refl e
     where
-      go : (b : Bool) → eqb c u ≡ b → (if b then successful else other-user-id) ≡ 0 → Sort us c User (with links m p)
+      go : (b : Bool) → eqb c u ≡ b → (if b then successful else other-user-id) ≡ 0 → Sort us c User (with connections m p)
       go true q f =
           let same : x .2 .who ≡ i = apart (x .2 .who) i (rw (x .2 .named) (omega (arith, x .0))) (x .2 .named ∙ eqb-true c u q ∙ sym (w .is)) in
           (x .0, x .1, record { who = x .2 .who; named = x .2 .named; marks = marks-with 16 m p (x .2 .marks) (rw same (w .on)) })
@@ -57,7 +57,7 @@ module _ (us : Users) (sized : length (us .ids) ≡ 64) (apart : Apart (us .ids)
       low : i < 64
       low = seated-low us sized i (w .seated)
 
-      go : (b : Bool) → (eqb g i || has adm i) ≡ b → (if b then successful else not-admitted) ≡ 0 → Sort us c (Private g adm) (with links m p)
+      go : (b : Bool) → (eqb g i || has adm i) ≡ b → (if b then successful else not-admitted) ≡ 0 → Sort us c (Private g adm) (with connections m p)
       go true q f = (
         x .0,
         x .1,
@@ -78,24 +78,24 @@ module _ (new : ℕ) (d : Domain) (s : Sound d) (lo : 1001 ≤ new) (hi : new �
   unfolding join-new within
   join-new-fine u c none-c = go (ltb 1000 c) refl (channels-full d) refl (eqb c 0) refl
     where
-      here : Open (d .links) (only links p)
+      here : Open (d .links) (only connections p)
       here = marks-only 16 p open-p
 
-      some-one : 0 < only links p
-      some-one = has-pos (only links p) p (only-self 16 p pl)
+      some-one : 0 < only connections p
+      some-one = has-pos (only connections p) p (only-self 16 p pl)
 
       go : (a : Bool) → ltb 1000 c ≡ a → (b : Bool) → channels-full d ≡ b → (z : Bool) → eqb c 0 ≡ z
           → Fine (within (put-channels d) (if a then done (d .channels) (to p (CJcf no-such-channel u c none) ∷ [])
           else if b then done (d .channels) (to p (CJcf too-many-channels u c none) ∷ [])
-          else if z then done (add-channel (d .channels) new (channel-of Assigned (only links p))) (to p (CJcf successful u c (some new)) ∷ [])
-          else done (add-channel (d .channels) c (channel-of Static (only links p))) (to p (CJcf successful u c (some c)) ∷ [])))
+          else if z then done (add-channel (d .channels) new (channel-of Assigned (only connections p))) (to p (CJcf successful u c (some new)) ∷ [])
+          else done (add-channel (d .channels) c (channel-of Static (only connections p))) (to p (CJcf successful u c (some c)) ∷ [])))
       go true e b f z g = s
       go false e true f z g = s
-      go false e false f true g = made-sound d s new (omega arith) away f Assigned (only links p) here (lo, hi, some-one)
+      go false e false f true g = made-sound d s new (omega arith) away f Assigned (only connections p) here (lo, hi, some-one)
       go false e false f false g =
           let cz : c ≡ 0 → ⊥ = eqb-false c 0 g in
           let pos : 0 < c = omega arith in
-          made-sound d s c pos (find-none (d .channels .ids) c none-c pos) f Static (only links p) here (pos, ltb-false 1000 c e, some-one)
+          made-sound d s c pos (find-none (d .channels .ids) c none-c pos) f Static (only connections p) here (pos, ltb-false 1000 c e, some-one)
 
   -- CJrq for a channel in use
   join-at-fine : (u c i j : ℕ) → Sits (d .users) p u i → find (d .channels .ids) c ≡ At j
@@ -107,7 +107,7 @@ module _ (new : ℕ) (d : Domain) (s : Sound d) (lo : 1001 ≤ new) (hi : new �
       let row : ChannelRow (d .links) (d .users) j (getD (d .channels .ids) j 0) (getD (d .channels .cells) j no-channel) = s .channels-are .rows j used in
       let k = kind (getD (d .channels .cells) j no-channel) in
       let m = getD (d .channels .cells) j no-channel .marks in
-      set-sound d s j used _ k (with links m p) (ap (λ (x : Channel). with-marks x (with links m p)) (row .plain) ∙ with-marks-of k m (with links m p))
+      set-sound d s j used _ k (with connections m p) (ap (λ (x : Channel). with-marks x (with connections m p)) (row .plain) ∙ with-marks-of k m (with connections m p))
       (marks-with 16 m p (row .joins) open-p)
       (join-sort (d .users) (s .users-are .ids-size) (s .users-are .apart) p u i w pl (getD (d .channels .ids) j 0) k m (row .sort) (rw (r .0) f))
       (λ y. y)
@@ -155,13 +155,13 @@ module _ (d : Domain) (s : Sound d) (p : ℕ) where
       stays-user : (u : ℕ) → 0 < u → (o : Owned (d .channels) u) → (b : Bool) → member u cs ≡ b → Owned (sweep-channels (left p cs) (d .channels)) u
       stays-user u uz o true q =
           let ch = getD (d .channels .cells) (o .spot) no-channel in
-          let r = marked-user ch (without links (ch .marks) p) (o .kind-is) in
-          kept uz o (with-marks ch (without links (ch .marks) p)) (r .1) (rw q (r .0))
+          let r = marked-user ch (without connections (ch .marks) p) (o .kind-is) in
+          kept uz o (with-marks ch (without connections (ch .marks) p)) (r .1) (rw q (r .0))
       stays-user u uz o false q = kept uz o (getD (d .channels .cells) (o .spot) no-channel) (o .kind-is) (rw q)
 
       row : (j c : ℕ) (ch : Channel) → Row j c ch → (b : Bool) (new : Channel)
-          → (if b then marked ch (without links (ch .marks) p) else some ch) ≡ some new → Row j c new
-      row j c ch r true new e = marked-row (d .links) (d .users) j c (ch .marks) (without links (ch .marks) p)
+          → (if b then narrowed ch (without connections (ch .marks) p) else some ch) ≡ some new → Row j c new
+      row j c ch r true new e = marked-row (d .links) (d .users) j c (ch .marks) (without connections (ch .marks) p)
           (marks-without 16 (ch .marks) p (λ q h n. r .joins .are q h)) (λ q h. in-without 16 (ch .marks) q p h .0) (kind ch) ch (r .plain) (r .sort) new e
       row j c ch r false new e = rw (some-is e) r
 
@@ -253,12 +253,12 @@ module _ (d : Domain) (s : Sound d) (p u c : ℕ) where
 
   -- CErq
   pub expel-fine : (ids : List ℕ) → Fine (within (put-channels d) (expel (d .users) (d .channels) p u c ids))
-  unfolding expel channel private within
+  unfolding expel channel private-marks within
   expel-fine ids = manages-fine _ (λ j m adm x. go j m adm x (null (admitted-of (d .users) adm ids)))
     where
       go : (j m adm : ℕ) → Private-at d j m adm → (b : Bool)
           → Fine (within (put-channels d) (if b then ignored else done
-          (set-channel (d .channels) j (private (d .users) (channel (d .channels) j) m (minus seats adm (places (d .users) (admitted-of (d .users) adm ids))) (channel (d .channels) j .marks)))
+          (set-channel (d .channels) j (private-marks (d .users) (channel (d .channels) j) m (minus seats adm (places (d .users) (admitted-of (d .users) adm ids))) (channel (d .channels) j .marks)))
           (own (d .users) (admitted-of (d .users) adm ids) (CEin c))))
       go j m adm x true = tt
       go j m adm x false = set-sound d s j (x .used) _ (Private m _) _ (guests-changed _ m adm _ (x .stored) _ _) (marks-meet 16 _ _ (λ q a b. x .joins .are q a)) (

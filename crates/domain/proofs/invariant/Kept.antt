@@ -6,7 +6,7 @@ use Prim.Native.Nat.{ℕ, _≤_, _<_, suc-le-suc}
 use lib.Dec.{ltb}
 use lib.ListN.{length, getD}
 use borrow.Author.Tests.{ltb-false, not-false}
-use Rattle.cols_spec.specs.Sets.{if_then_else_, has, with, links}
+use Rattle.cols_spec.specs.Sets.{if_then_else_, has, with, connections}
 use Rattle.cols_spec.proofs.Bools.{or-parts}
 use Rattle.codec_table.specs.Named.{Message, EDrq, DPum, RJum, AUrq, AUcf, DUrq, DUin, CJrq, CJcf, CLrq, CCrq, CCcf, CDrq, CDin, CArq, CAin, CErq, CEin}
 use Rattle.codec_table.specs.Named.{TGrq, TGcf, TIrq, TIcf, TVrq, TVin, TVrs, TVcf, TPrq, TPin, TRrq, TRcf, TTrq, TTcf}
@@ -90,7 +90,7 @@ module _ (d : Domain) (s : Sound d) where
     unfolding step-with
     sound-step (opens p) room f = go (ltb 15 p) (has (d .links) p)
       where
-        go : (a b : Bool) → Sound ((if a then stays d 2 else if b then stays d 3 else record { reply = 0; domain = put-links d (with links (d .links) p); sent = [] }) .domain)
+        go : (a b : Bool) → Sound ((if a then stays d 2 else if b then stays d 3 else record { reply = 0; domain = put-links d (with connections (d .links) p); sent = [] }) .domain)
         go true b = s
         go false true = s
         go false false = open-sound d s p

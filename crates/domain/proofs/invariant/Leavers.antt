@@ -8,7 +8,7 @@ use native.Mathlib.Omega.{arith}
 use lib.Dec.{eqb}
 use lib.ListN.{length, getD}
 use borrow.Author.Tests.{eq-eqb}
-use Rattle.cols_spec.specs.Sets.{if_then_else_, null, once, has, with, without, minus, meet, links, seats, member}
+use Rattle.cols_spec.specs.Sets.{if_then_else_, null, once, has, with, without, minus, meet, connections, seats, member}
 use Rattle.cols_spec.specs.Places.{Place, At, Nowhere, find, found, inOrder, turns-to}
 use Rattle.cols_spec.proofs.Bools.{some-is, none≢some}
 use Rattle.cols_spec.proofs.Digits.{those-lt}
@@ -22,10 +22,10 @@ use Rattle.domain.specs.declared.channel.Kind.the-variants.{Static, User
 use Rattle.domain.specs.declared.channel.Channel.{Channel}
 use Rattle.domain.specs.declared.token.Token.{Token}
 use Rattle.domain.specs.Cells.{kind, channel-of, with-marks, hold, token-of}
-use Rattle.domain.specs.Tables.{Users, Channels, Domain, link, attached, stays-on, remove-users, sweep-channels, marked, is-free, sweep-tokens}
+use Rattle.domain.specs.Tables.{Users, Channels, Domain, link, attached, stays-on, remove-users, sweep-channels, narrowed, is-free, sweep-tokens}
 use Rattle.domain.specs.Tokens.{lose}
 use Rattle.domain.specs.Effects.{ignored}
-use Rattle.domain.specs.Channels.{places, private}
+use Rattle.domain.specs.Channels.{places, private-marks}
 use Rattle.domain.specs.Leaving.{fate-of, fate, leave, those-on, detach, close}
 use Rattle.domain.proofs.Listed.{places-has}
 use Rattle.domain.proofs.invariant.Sound.{Seated, Host, UserRow, Sort, ChannelRow, TokenRow, Sound, Fine}
@@ -34,14 +34,14 @@ use Rattle.domain.proofs.invariant.Rooms.{in-hosts, row-of, guests-chan
 
 -- a user's own channel, by the user's place
 abbrev pub own-fate : (gone : ℕ) (ch : Channel) (n : ℕ) → Place → Option Channel
-own-fate gone ch n w = elim w [ At i ↦ if has gone i then none else marked ch n | Nowhere ↦ marked ch n ]
+own-fate gone ch n w = elim w [ At i ↦ if has gone i then none else narrowed ch n | Nowhere ↦ narrowed ch n ]
 
 -- it stays while the user does
 fate-user : (us : Users) (gone live u i : ℕ) (ch : Channel) → kind ch ≡ User → find (us .ids) u ≡ At i → has gone i ≡ false
-    → fate us gone live u ch ≡ some (with-marks ch (meet links (ch .marks) live))
+    → fate us gone live u ch ≡ some (with-marks ch (meet connections (ch .marks) live))
 unfolding fate fate-of
 fate-user us gone live u i ch e f g =
-    ap (fate-of us gone live u ch) e ∙ ap (own-fate gone ch (meet links (ch .marks) live)) f ∙ rw g (marked-user ch (meet links (ch .marks) live) e .0)
+    ap (fate-of us gone live u ch) e ∙ ap (own-fate gone ch (meet connections (ch .marks) live)) f ∙ rw g (marked-user ch (meet connections (ch .marks) live) e .0)
 
 module _ (us us′ : Users) (sized : length (us .at) ≡ 64) (apart : Apart (us .ids)) (gone live : ℕ)
     (keeps : (i : ℕ) → Seated us i → has gone i ≡ false → (getD (us′ .ids) i 0 ≡ getD (us .ids) i 0) × (getD (us′ .at) i 0 ≡ getD (us .at) i 0)) where
@@ -51,15 +51,15 @@ module _ (us us′ : Users) (sized : length (us .at) ≡ 64) (apart : Apart (us 
 
   module _ (j c : ℕ) (ch : Channel) (new : Channel) where
     -- with the marks of the connections that remain
-    fewer-row : (k : Kind) → ch ≡ channel-of k (ch .marks) → Sort us′ c k (ch .marks) → marked ch (meet links (ch .marks) live) ≡ some new → ChannelRow live us′ j c new
+    fewer-row : (k : Kind) → ch ≡ channel-of k (ch .marks) → Sort us′ c k (ch .marks) → narrowed ch (meet connections (ch .marks) live) ≡ some new → ChannelRow live us′ j c new
     fewer-row k p x e =
-        marked-row live us′ j c (ch .marks) (meet links (ch .marks) live) (marks-meet 16 (ch .marks) live (λ q a b. b)) (λ q h. in-meet 16 (ch .marks) q live h .0) k ch p x new e
+        marked-row live us′ j c (ch .marks) (meet connections (ch .marks) live) (marks-meet 16 (ch .marks) live (λ q a b. b)) (λ q h. in-meet 16 (ch .marks) q live h .0) k ch p x new e
 
     -- what becomes of a channel
     fate-row : (k : Kind) → ch ≡ channel-of k (ch .marks) → Sort us c k (ch .marks) → fate-of us gone live c ch k ≡ some new → ChannelRow live us′ j c new
-    unfolding fate-of private
+    unfolding fate-of private-marks
     fate-row Static p x e = fewer-row Static p x e
-    fate-row User p x e = go (has gone who) refl (sym (ap (own-fate gone ch (meet links (ch .marks) live)) at-who) ∙ e)
+    fate-row User p x e = go (has gone who) refl (sym (ap (own-fate gone ch (meet connections (ch .marks) live)) at-who) ∙ e)
       where
         who : ℕ
         who = x .2 .who
@@ -70,7 +70,7 @@ module _ (us us′ : Users) (sized : length (us .at) ≡ 64) (apart : Apart (us 
         at-who : find (us .ids) c ≡ At who
         at-who = rw (x .2 .named) at (find-there (us .ids) apart who here)
 
-        go : (b : Bool) → has gone who ≡ b → (if b then none else marked ch (meet links (ch .marks) live)) ≡ some new → ChannelRow live us′ j c new
+        go : (b : Bool) → has gone who ≡ b → (if b then none else narrowed ch (meet connections (ch .marks) live)) ≡ some new → ChannelRow live us′ j c new
         go true q f = absurd (none≢some f)
         go false q f = let w = keeps who here q in
             fewer-row User p (x .0, x .1, record { who = who; named = w .0 ∙ x .2 .named; marks = marks-map 16 (x .2 .marks) (λ r e. w .1 ∙ e) }) f
@@ -87,16 +87,16 @@ module _ (us us′ : Users) (sized : length (us .at) ≡ 64) (apart : Apart (us 
               ∙ o .there;
         }
 
-        go : (b : Bool) → has gone g ≡ b → (if b then none else some (private us ch g (minus seats adm gone) (meet links (ch .marks) live))) ≡ some new → ChannelRow live us′ j c new
+        go : (b : Bool) → has gone g ≡ b → (if b then none else some (private-marks us ch g (minus seats adm gone) (meet connections (ch .marks) live))) ≡ some new → ChannelRow live us′ j c new
         go true z f = absurd (none≢some f)
         go false z f = subst⁻¹ (ChannelRow live us′ j c) (some-is f ∙ guests-changed ch g adm _ p _ _) (row-of live us′ j c (Private g (minus seats adm gone)) _
-            (marks-meet 16 (meet links (ch .marks) live) _ (λ q a b. in-meet 16 (ch .marks) q live a .1)) (
+            (marks-meet 16 (meet connections (ch .marks) live) _ (λ q a b. in-meet 16 (ch .marks) q live a .1)) (
               x .0,
               x .1,
               record {
                 manager = seated-then g (x .2 .manager) z;
                 admitted = marks-minus 64 adm gone (λ i a b. seated-then i (x .2 .admitted .are i a) b);
-                marks = marks-meet 16 (meet links (ch .marks) live) _ (λ q a b. stays z q (in-hosts us _ q sized b));
+                marks = marks-meet 16 (meet connections (ch .marks) live) _ (λ q a b. stays z q (in-hosts us _ q sized b));
               },
             ))
     fate-row Assigned p x e = fewer-row Assigned p x e
@@ -188,6 +188,6 @@ module _ (d : Domain) (s : Sound d) where
   -- DPum, RJum, loss
   pub close-fine : (p : ℕ) → Fine (close d p)
   unfolding close leave without
-  close-fine p = left-sound (places (d .users) (those-on (d .users) p (inOrder (d .users .ids)))) (without links (d .links) p) (those-lt 16 _)
+  close-fine p = left-sound (places (d .users) (those-on (d .users) p (inOrder (d .users .ids)))) (without connections (d .links) p) (those-lt 16 _)
       (λ i h g. let l = s .users-are .rows i h .linked in
       without-other 16 (d .links) (getD (d .users .at) i 0) p (has-low 16 (d .links) _ (s .links-fit) l) l (λ e. false≢true (sym g ∙ all-gone p i h e)))

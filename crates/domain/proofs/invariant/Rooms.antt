@@ -19,7 +19,7 @@ use Rattle.domain.specs.declared.channel.Kind.{Kind}
 use Rattle.domain.specs.declared.channel.Kind.the-variants.{Static, User, Private, Assigned}
 use Rattle.domain.specs.declared.channel.Channel.{Channel}
 use Rattle.domain.specs.Cells.{no-channel, kind, channel-of, with-marks, with-guests}
-use Rattle.domain.specs.Tables.{Users, Channels, Domain, put-channels, add-channel, set-channel, end-channel, sweep-channels, lapses, marked, hosts, link, at-limit}
+use Rattle.domain.specs.Tables.{Users, Channels, Domain, put-channels, add-channel, set-channel, end-channel, sweep-channels, lapses, narrowed, hosts, link, at-limit}
 use Rattle.domain.specs.Events.{channels-full}
 use Rattle.domain.proofs.invariant.Sound.{Host, Owned, Sort, ChannelRow, Sound, limits-le}
 use Rattle.domain.proofs.invariant.Seats.{kind-of, marks-of, with-guests-of}
@@ -151,13 +151,13 @@ module _ (cs : Channels) {lim : ℕ} {P : ℕ → ℕ → Channel → Type 0} (t
 -- ---- fewer marks
 
 -- a user's channel stays a user's channel
-pub marked-user : (ch : Channel) (m : ℕ) → kind ch ≡ User → (marked ch m ≡ some (with-marks ch m)) × (kind (with-marks ch m) ≡ User)
-unfolding marked lapses kind with-marks
+pub marked-user : (ch : Channel) (m : ℕ) → kind ch ≡ User → (narrowed ch m ≡ some (with-marks ch m)) × (kind (with-marks ch m) ≡ User)
+unfolding narrowed lapses kind with-marks
 marked-user ch m e = (rw e refl, e)
 
 -- of a channel as it is stored
-marked-of : (k : Kind) (m n : ℕ) → marked (channel-of k m) n ≡ (if lapses k && eqb n 0 then none else some (channel-of k n))
-unfolding marked lapses kind channel-of with-marks
+marked-of : (k : Kind) (m n : ℕ) → narrowed (channel-of k m) n ≡ (if lapses k && eqb n 0 then none else some (channel-of k n))
+unfolding narrowed lapses kind channel-of with-marks
 marked-of Static m n = refl
 marked-of User m n = refl
 marked-of (Private g adm) m n = refl
@@ -177,8 +177,8 @@ module _ (live : ℕ) (us : Users) (j c : ℕ) (m n : ℕ) (open-n : Open live n
   fewer-sort Assigned x e = let z : n ≡ 0 → ⊥ = eqb-false n 0 e in (x .0, x .1, omega arith)
 
   -- a channel with fewer marks, all of open connections, where it does not end
-  pub marked-row : (k : Kind) (ch : Channel) → ch ≡ channel-of k m → Sort us c k m → (after : Channel) → marked ch n ≡ some after → ChannelRow live us j c after
-  marked-row k ch p x after e = go (lapses k && eqb n 0) refl (sym (marked-of k m n) ∙ subst (λ (y : Channel). marked y n ≡ some after) p e)
+  pub marked-row : (k : Kind) (ch : Channel) → ch ≡ channel-of k m → Sort us c k m → (after : Channel) → narrowed ch n ≡ some after → ChannelRow live us j c after
+  marked-row k ch p x after e = go (lapses k && eqb n 0) refl (sym (marked-of k m n) ∙ subst (λ (y : Channel). narrowed y n ≡ some after) p e)
     where
       go : (b : Bool) → (lapses k && eqb n 0) ≡ b → (if b then none else some (channel-of k n)) ≡ some after → ChannelRow live us j c after
       go true q f = absurd (none≢some f)

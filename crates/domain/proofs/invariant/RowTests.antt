@@ -7,7 +7,7 @@ use native.Mathlib.Omega.{arith}
 use lib.Dec.{eqb, leb, ltb}
 use lib.ListN.{length}
 use borrow.Author.Tests.{eq-eqb, eqb-true, leb-true, ltb-true, lt-ltb, le-leb}
-use Rattle.cols_spec.specs.Sets.{all, below, has, with, only, meet, links, seats}
+use Rattle.cols_spec.specs.Sets.{all, below, has, with, only, meet, connections, seats}
 use Rattle.cols_spec.specs.Places.{Place, At, Nowhere, find, load}
 use Rattle.cols_spec.proofs.Bools.{and-parts, and-both}
 use Rattle.cols_spec.proofs.Below.{all-upto, all-hit, any-hit}
@@ -66,12 +66,12 @@ ranged a b c t h = let r = and-parts (between a b c) t h in let q = between-is a
 -- a mask with nothing but what n has, and the other way
 inside-is : (m n : ℕ) → inside m n ≡ true → Marks 16 m (λ q. has n q ≡ true)
 unfolding inside meet
-inside-is m n h = let e : meet links m n ≡ m = eqb-true (meet links m n) m h in
+inside-is m n h = let e : meet connections m n ≡ m = eqb-true (meet connections m n) m h in
     record { fits = subst (λ (x : ℕ). x < 2 ^ 16) e (those-lt 16 _); are = λ q k. in-meet 16 m q n (ap (λ (x : ℕ). has x q) e ∙ k) .1 }
 
 is-inside : (m n : ℕ) → Marks 16 m (λ q. has n q ≡ true) → inside m n ≡ true
 unfolding inside meet
-is-inside m n x = eq-eqb (meet links m n) m (mask-ext 16 _ m (those-lt 16 _) (x .fits) (λ q l. has-those 16 _ q l ∙ go q (has m q) refl))
+is-inside m n x = eq-eqb (meet connections m n) m (mask-ext 16 _ m (those-lt 16 _) (x .fits) (λ q l. has-those 16 _ q l ∙ go q (has m q) refl))
   where
     go : (q : ℕ) (b : Bool) → has m q ≡ b → (b && has n q) ≡ b
     go q true e = x .are q e
@@ -153,7 +153,7 @@ module _ (us : Users) where
 
     -- the marks of a user id channel: its user's connection
     abbrev at-home : ℕ → Place → Bool
-    at-home m w = elim w as (λ (_ : Place). Bool) [ At i ↦ inside m (only links (link us i)) | Nowhere ↦ false ]
+    at-home m w = elim w as (λ (_ : Place). Bool) [ At i ↦ inside m (only connections (link us i)) | Nowhere ↦ false ]
 
     -- a place in use has a connection
     linked : (i : ℕ) → i < length (us .ids) → i < length (us .at)

@@ -8,7 +8,7 @@ use native.Mathlib.Omega.{arith}
 use lib.Dec.{eqb}
 use lib.ListN.{length, getD}
 use borrow.Author.Tests.{ne-eqb, eqb-true}
-use Rattle.cols_spec.specs.Sets.{if_then_else_, any, has, those, with, minus, meet, seats, links, upto}
+use Rattle.cols_spec.specs.Sets.{if_then_else_, any, has, those, with, minus, meet, seats, connections, upto}
 use Rattle.cols_spec.specs.Places.{At, find}
 use Rattle.cols_spec.proofs.Bools.{and-parts, and-both, or-parts}
 use Rattle.cols_spec.proofs.Below.{any-same, any-upto, any-hit}
@@ -22,9 +22,9 @@ use Rattle.domain.specs.declared.token.Holding.{Holding}
 use Rattle.domain.specs.declared.token.Holding.the-variants.{Free, Grabbed, Inhibited, Giving, Given}
 use Rattle.domain.specs.declared.token.Token.{Token}
 use Rattle.domain.specs.Cells.{no-channel, no-token, kind, channel-of, with-marks, with-guests, hold, token-of}
-use Rattle.domain.specs.Tables.{Users, Domain, link, stays-on, remove-users, hosts, sweep-channels, lapses, marked, is-free, sweep-tokens}
+use Rattle.domain.specs.Tables.{Users, Domain, link, stays-on, remove-users, hosts, sweep-channels, lapses, narrowed, is-free, sweep-tokens}
 use Rattle.domain.specs.Tokens.{lose, lose-offer, inhibited}
-use Rattle.domain.specs.Channels.{private}
+use Rattle.domain.specs.Channels.{private-marks}
 use Rattle.domain.specs.Leaving.{fate-of, fate}
 use Rattle.domain.proofs.invariant.Sound.{Seated, Sort, Held, Sound, free-is}
 use Rattle.domain.proofs.invariant.Seats.{kind-of, hold-of, held-low}
@@ -62,7 +62,7 @@ unfolding minus
 has-minus m n k l = has-those 64 _ k l
 
 -- connections asked again, of which the later ask for no others
-meet-again : (m live h k : ℕ) → ((q : ℕ) → q < 16 → has k q ≡ true → has h q ≡ true) → meet links (meet links (meet links (meet links m live) h) live) k ≡ meet links (meet links m live) k
+meet-again : (m live h k : ℕ) → ((q : ℕ) → q < 16 → has k q ≡ true → has h q ≡ true) → meet connections (meet connections (meet connections (meet connections m live) h) live) k ≡ meet connections (meet connections m live) k
 unfolding meet
 meet-again m live h k f = mask-ext 16 _ _ (those-lt 16 _) (those-lt 16 _) (λ q l.
     has-those 16 _ q l
@@ -169,7 +169,7 @@ module _ (d : Domain) (s : Sound d) (a b g : ℕ) (sum : (i : ℕ) → Seated (d
   -- the connections of users who stay
   hosts-stay : (w : ℕ) → ((i : ℕ) → has w i ≡ true → Seated us i × (has a i ≡ false)) → hosts us′ w ≡ hosts us w
   unfolding hosts
-  hosts-stay w f = ap (those links) (fun-ext (λ q. any-same (λ i. has w i && eqb (link us′ i) q) (λ i. has w i && eqb (link us i) q) (λ i. go i q (has w i) refl) (upto 64 [])))
+  hosts-stay w f = ap (those connections) (fun-ext (λ q. any-same (λ i. has w i && eqb (link us′ i) q) (λ i. has w i && eqb (link us i) q) (λ i. go i q (has w i) refl) (upto 64 [])))
     where
       go : (i q : ℕ) (z : Bool) → has w i ≡ z → (z && eqb (link us′ i) q) ≡ (z && eqb (link us i) q)
       go i q true e = ap (λ (p : ℕ). eqb p q) (link-stays i (f i e .0) (f i e .1))
@@ -183,7 +183,7 @@ module _ (d : Domain) (s : Sound d) (a b g : ℕ) (sum : (i : ℕ) → Seated (d
       (λ e. absurd (false≢true e))
 
   -- a channel with the marks of the connections that remain, which are all of them
-  all-open : (ch : Channel) → Marks 16 (ch .marks) (λ q. has (d .links) q ≡ true) → meet links (ch .marks) (d .links) ≡ ch .marks
+  all-open : (ch : Channel) → Marks 16 (ch .marks) (λ q. has (d .links) q ≡ true) → meet connections (ch .marks) (d .links) ≡ ch .marks
   unfolding meet
   all-open ch x = mask-ext 16 _ _ (those-lt 16 _) (x .fits) (λ q l. has-those 16 _ q l ∙ go q (has (ch .marks) q) refl)
     where
@@ -191,14 +191,14 @@ module _ (d : Domain) (s : Sound d) (a b g : ℕ) (sum : (i : ℕ) → Seated (d
       go q true e = x .are q e
       go q false e = refl
 
-  stays-marked : (ch : Channel) → Marks 16 (ch .marks) (λ q. has (d .links) q ≡ true) → (lapses (kind ch) && eqb (ch .marks) 0) ≡ false → marked ch (meet links (ch .marks) (d .links)) ≡ some ch
-  unfolding marked with-marks
+  stays-marked : (ch : Channel) → Marks 16 (ch .marks) (λ q. has (d .links) q ≡ true) → (lapses (kind ch) && eqb (ch .marks) 0) ≡ false → narrowed ch (meet connections (ch .marks) (d .links)) ≡ some ch
+  unfolding narrowed with-marks
   stays-marked ch x e = rw (all-open ch x, e)
 
   -- what becomes of a channel, twice
   module _ (c : ℕ) (ch : Channel) (open-m : Marks 16 (ch .marks) (λ q. has (d .links) q ≡ true)) where
     -- one that is neither a user's nor private
-    plain-fate : (lapses (kind ch) && eqb (ch .marks) 0) ≡ false → ((ws : Users) (n : ℕ) → fate ws n (d .links) c ch ≡ marked ch (meet links (ch .marks) (d .links)))
+    plain-fate : (lapses (kind ch) && eqb (ch .marks) 0) ≡ false → ((ws : Users) (n : ℕ) → fate ws n (d .links) c ch ≡ narrowed ch (meet connections (ch .marks) (d .links)))
         → and-then (fate us a (d .links) c ch) (fate us′ b (d .links) c) ≡ fate us g (d .links) c ch
     plain-fate e law = ap (λ (o : Option Channel). and-then o (fate us′ b (d .links) c)) (stay us a) ∙ stay us′ b ∙ sym (stay us g)
       where
@@ -207,7 +207,7 @@ module _ (d : Domain) (s : Sound d) (a b g : ℕ) (sum : (i : ℕ) → Seated (d
 
     same-fate : (k : Kind) → kind ch ≡ k → ch ≡ channel-of k (ch .marks) → Sort us c k (ch .marks)
         → and-then (fate us a (d .links) c ch) (fate us′ b (d .links) c) ≡ fate us g (d .links) c ch
-    unfolding fate fate-of lapses private with-guests
+    unfolding fate fate-of lapses private-marks with-guests
     same-fate Static e p x = plain-fate (rw (e, ne-eqb (ch .marks) 0 (λ z. omega (arith, x .2, z)))) (λ ws n. ap (fate-of ws n (d .links) c ch) e)
     same-fate User e p x = ap (λ (o : Option Channel). and-then o (fate us′ b (d .links) c)) (own us a at-who) ∙ go (has a i) refl ∙ sym (own us g at-who ∙ rw (sum i here))
       where
@@ -229,19 +229,19 @@ module _ (d : Domain) (s : Sound d) (a b g : ℕ) (sum : (i : ℕ) → Seated (d
     same-fate (Private m adm) e p x = ap (λ (o : Option Channel). and-then o (fate us′ b (d .links) c)) (by us a ch adm e) ∙ go (has a m) refl ∙ sym (by us g ch adm e ∙ rw (sum m (x .2 .manager)))
       where
         by : (ws : Users) (n : ℕ) (z : Channel) (is : ℕ) → kind z ≡ Private m is
-            → fate ws n (d .links) c z ≡ (if has n m then none else some (private ws z m (minus seats is n) (meet links (z .marks) (d .links))))
+            → fate ws n (d .links) c z ≡ (if has n m then none else some (private-marks ws z m (minus seats is n) (meet connections (z .marks) (d .links))))
         by ws n z is f = ap (fate-of ws n (d .links) c z) f
 
         -- after the first have left
         one : Channel
-        one = private us ch m (minus seats adm a) (meet links (ch .marks) (d .links))
+        one = private-marks us ch m (minus seats adm a) (meet connections (ch .marks) (d .links))
 
         one-kind : kind one ≡ Private m (minus seats adm a)
         one-kind = ap kind (guests-changed ch m adm (ch .marks) p (minus seats adm a) _) ∙ kind-of (Private m (minus seats adm a)) _
 
         -- after all have left
         all-gone : Channel
-        all-gone = private us ch m (minus seats adm g) (meet links (ch .marks) (d .links))
+        all-gone = private-marks us ch m (minus seats adm g) (meet connections (ch .marks) (d .links))
 
         less : minus seats (minus seats adm a) b ≡ minus seats adm g
         less = minus-twice us a b g sum adm (x .2 .admitted)
@@ -252,10 +252,10 @@ module _ (d : Domain) (s : Sound d) (a b g : ℕ) (sum : (i : ℕ) → Seated (d
             let o : Seated us i = x .2 .admitted .are i (r .0) in (o, or-parts (has a i) (has b i) (sym (sum i o) ∙ r .1) .0))
             (λ k. let o : Seated us i = rw k (x .2 .manager) in (o, or-parts (has a i) (has b i) (sym (sum i o) ∙ rw k z) .0))
 
-        marks-same : has g m ≡ false → meet links (meet links (one .marks) (d .links)) (hosts us′ (with seats (minus seats (minus seats adm a) b) m)) ≡ all-gone .marks
+        marks-same : has g m ≡ false → meet connections (meet connections (one .marks) (d .links)) (hosts us′ (with seats (minus seats (minus seats adm a) b) m)) ≡ all-gone .marks
         marks-same z =
-            ap (λ (y : ℕ). meet links (meet links (one .marks) (d .links)) (hosts us′ (with seats y m))) less
-            ∙ ap (meet links (meet links (one .marks) (d .links))) (hosts-stay (with seats (minus seats adm g) m) (not-first z))
+            ap (λ (y : ℕ). meet connections (meet connections (one .marks) (d .links)) (hosts us′ (with seats y m))) less
+            ∙ ap (meet connections (meet connections (one .marks) (d .links))) (hosts-stay (with seats (minus seats adm g) m) (not-first z))
             ∙ meet-again (ch .marks) (d .links) _ _ (λ q l. hosts-more (with seats (minus seats adm g) m) (with seats (minus seats adm a) m) q l (λ i b h. with-mono 64 (minus seats adm g) (minus seats adm a) m i (fewer i) h))
           where
             fewer : (i : ℕ) → i < 64 → has (minus seats adm g) i ≡ true → has (minus seats adm a) i ≡ true
@@ -264,7 +264,7 @@ module _ (d : Domain) (s : Sound d) (a b g : ℕ) (sum : (i : ℕ) → Seated (d
                 has-minus adm a i l ∙ rw (r .0, or-parts (has a i) (has b i) (sym (sum i (x .2 .admitted .are i (r .0))) ∙ r .1) .0)
 
         rest : (z : Bool) → has b m ≡ z → has a m ≡ false
-            → (if z then none else some (private us′ one m (minus seats (minus seats adm a) b) (meet links (one .marks) (d .links)))) ≡ (if z then none else some all-gone)
+            → (if z then none else some (private-marks us′ one m (minus seats (minus seats adm a) b) (meet connections (one .marks) (d .links)))) ≡ (if z then none else some all-gone)
         rest true q f = refl
         rest false q f = ap some (ap₂ (with-guests ch) less (marks-same (sum m (x .2 .manager) ∙ rw (f, q))))
 

@@ -10,7 +10,7 @@ use Rattle.codec_table.specs.Named.{self-recipient, other-giving}
 use Rattle.domain.specs.declared.token.Holding.{Holding}
 use Rattle.domain.specs.declared.token.Holding.the-variants.{Free, Grabbed, Inhibited, Giving, Given}
 use Rattle.domain.specs.Tables.{Users, is-free}
-use Rattle.domain.specs.Tokens.{Turned, fails, turns, status, grab, inhibit, release, inhibited, grabbed-by, offered-to, answered, party}
+use Rattle.domain.specs.Tokens.{Turned, fails, turns, status, grab, inhibit, release, inhibited, grabbed-by, offered-to, responded, party}
 use Rattle.domain_laws.specs.Same.{Standing, nobody, grabbed, inhibited as inhibited-by, giving, given, standing}
 use Rattle.domain.proofs.invariant.Sound.{Held}
 use Rattle.domain_laws.proofs.same.Twins.{Twins, Pair, Match, pair-eqb, pair-name, match-none, match-only, match-with, match-without, match-ids, match-eqb, match-by, pair-by}
@@ -147,8 +147,8 @@ module _ (us vs : Users) (t : Twins us vs) where
     twin-offered-to (both-giving p r) = pair-eqb us vs r q
     twin-offered-to (both-given p) = pair-eqb us vs p q
 
-    pub twin-answered : (b : Bool) {h k : Holding} → Twin us vs h k → Twin us vs (answered b h i) (answered b k j)
-    unfolding answered
+    pub twin-answered : (b : Bool) {h k : Holding} → Twin us vs h k → Twin us vs (responded b h i) (responded b k j)
+    unfolding responded
     twin-answered true x = both-grabbed q
     twin-answered false both-free = both-free
     twin-answered false (both-grabbed p) = both-grabbed p

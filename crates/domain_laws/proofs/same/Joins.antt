@@ -8,7 +8,7 @@ use native.Mathlib.Omega.{arith}
 use lib.Dec.{eqb, ltb}
 use lib.ListN.{getD}
 use borrow.Author.Tests.{eqb-true, eqb-false, leb-false}
-use Rattle.cols_spec.specs.Sets.{if_then_else_, keep, any, null, each, below, member, once, has, with, without, meet, links}
+use Rattle.cols_spec.specs.Sets.{if_then_else_, keep, any, null, each, below, member, once, has, with, without, meet, connections}
 use Rattle.cols_spec.specs.Places.{Place, At, Nowhere, find, found, spare, used, load}
 use Rattle.cols_spec.proofs.Rows.{find-none}
 use Rattle.cols_spec.proofs.Table.{Table, new-place}
@@ -21,7 +21,7 @@ use Rattle.domain.specs.declared.channel.Channel.{Channel}
 use Rattle.domain.specs.Cells.{no-channel, kind, channel-of, with-marks}
 use Rattle.domain.specs.Tables.{Users, Channels, Domain, channel, add-channel, set-channel, end-channel, at-limit, seen}
 use Rattle.domain.specs.Effects.{Effect, ignored}
-use Rattle.domain.specs.Channels.{may, join-at, join-new, join, joined, left, leave-channels, convene, owned, manages, disband, own, attached-of, admitted-of, admit, private, expel}
+use Rattle.domain.specs.Channels.{may, join-at, join-new, join, joined, left, leave-channels, convene, owned, manages, disband, own, attached-of, admitted-of, admit, private-marks, expel}
 use Rattle.domain.specs.Events.{channels-full}
 use Rattle.domain_laws.specs.Same.{Role, role-of, channel-at, Same}
 use Rattle.domain.proofs.invariant.Sound.{Sound, limits-le}
@@ -133,7 +133,7 @@ module _ (d e : Domain) (s : Sound d) (r : Sound e) (x : Same d e) where
   join-at-both : (p u c j k : ℕ) → find (d .channels .ids) c ≡ At j → find (e .channels .ids) c ≡ At k → ChannelTwin us vs (channel (d .channels) j) (channel (e .channels) k) → (n : ℕ)
       → Both After (join-at (d .channels) p u c j n) (join-at (e .channels) p u c k n)
   unfolding join-at kind with-marks
-  join-at-both p u c j k f g m zero = both refl (set-same c f g _ _ (ap₂ (λ (z : Role) (n : ℕ). (z, with links n p)) (kind-says us vs twins (m .kinds)) (m .marks)))
+  join-at-both p u c j k f g m zero = both refl (set-same c f g _ _ (ap₂ (λ (z : Role) (n : ℕ). (z, with connections n p)) (kind-says us vs twins (m .kinds)) (m .marks)))
   join-at-both p u c j k f g m (suc n) = both refl (x .channels)
 
   module _ (new : ℕ) (lo : 1001 ≤ new) (away : (i : ℕ) → getD (d .channels .ids) i 0 ≡ new → ⊥) (away′ : (i : ℕ) → getD (e .channels .ids) i 0 ≡ new → ⊥) where
@@ -181,7 +181,7 @@ module _ (d e : Domain) (s : Sound d) (r : Sound e) (x : Same d e) where
   left-says : (p : ℕ) (ids : List ℕ) (c : ℕ) (a b : Channel) → ChannelTwin us vs a b → says us (left p ids c a) ≡ says vs (left p ids c b)
   unfolding left
   left-says p ids c a b m = either (λ y z. says us y ≡ says vs z) (member c ids) (member c ids) refl
-      (marked-says us vs a b _ _ (kind-says us vs twins (m .kinds)) (kind-lapses us vs twins (m .kinds)) (ap (λ (z : ℕ). without links z p) (m .marks)))
+      (marked-says us vs a b _ _ (kind-says us vs twins (m .kinds)) (kind-lapses us vs twins (m .kinds)) (ap (λ (z : ℕ). without connections z p) (m .marks)))
       (ap some (ap₂ (λ (z : Role) (n : ℕ). (z, n)) (kind-says us vs twins (m .kinds)) (m .marks)))
 
   pub leave-channels-both : (p : ℕ) (ids : List ℕ) → Both After (leave-channels (d .channels) p ids) (leave-channels (e .channels) p ids)
@@ -242,7 +242,7 @@ module _ (d e : Domain) (s : Sound d) (r : Sound e) (x : Same d e) where
   -- each connection's own ids
   own-same : (ids : List ℕ) (say : List ℕ → Message) → own us ids say ≡ own vs ids say
   unfolding own
-  own-same ids say = ap (λ (f : (ℕ → ℕ → Bool)). each (λ q. let mine = keep (f q) ids in if null mine then [] else to q (say mine) ∷ []) (below links))
+  own-same ids say = ap (λ (f : (ℕ → ℕ → Bool)). each (λ q. let mine = keep (f q) ids in if null mine then [] else to q (say mine) ∷ []) (below connections))
       (fun-ext (λ q. fun-ext (λ u. attached-same d e s r x q u)))
 
   -- CArq
@@ -271,10 +271,10 @@ module _ (d e : Domain) (s : Sound d) (r : Sound e) (x : Same d e) where
       go v (nowhere f g) = ap (is m) f ∙ sym (ap (is n) g)
 
   pub expel-both : (p u c : ℕ) (ids : List ℕ) → Both After (expel us (d .channels) p u c ids) (expel vs (e .channels) p u c ids)
-  unfolding expel private
+  unfolding expel private-marks
   expel-both p u c ids = manages-both p u c _ _ (λ j k g h m n w. rw (admitted-of-same m n (w .admitted) ids) (either (Both After) (null (admitted-of vs n ids)) _ refl skip
       (both (own-same (admitted-of vs n ids) (CEin c)) (set-same c (w .left) (w .right) _ _
       (let less = match-minus us vs twins m n (w .admitted) _ _ (match-places us vs twins (admitted-of vs n ids) .same) in
       private-said us _ g m _ (w .stored) _ _
-      ∙ ap₂ (λ (z : Role) (q : ℕ). (z, q)) (kind-says us vs twins (both-private (w .manager) less)) (ap₂ (meet links) (w .twin .marks) (match-hosts us vs twins (match-with us vs twins _ _ less (w .manager))))
+      ∙ ap₂ (λ (z : Role) (q : ℕ). (z, q)) (kind-says us vs twins (both-private (w .manager) less)) (ap₂ (meet connections) (w .twin .marks) (match-hosts us vs twins (match-with us vs twins _ _ less (w .manager))))
       ∙ sym (private-said vs _ h n _ (w .stored′) _ _))))))

@@ -6,7 +6,7 @@ use mathlib.Core.Option.{Option, none, some}
 use Prim.Native.Nat.{ℕ}
 use lib.Dec.{eqb}
 use lib.ListN.{getD}
-use Rattle.cols_spec.specs.Sets.{if_then_else_, keep, null, once, has, without, minus, meet, seats, links}
+use Rattle.cols_spec.specs.Sets.{if_then_else_, keep, null, once, has, without, minus, meet, seats, connections}
 use Rattle.cols_spec.specs.Places.{Place, At, Nowhere, find, found, inOrder, turns-to}
 use Rattle.cols_spec.proofs.Marks.{marks-minus}
 use Rattle.cols_spec.proofs.Rows.{At≢Nowhere, At-inj, find-holds, find-there}
@@ -20,9 +20,9 @@ use Rattle.domain.specs.declared.channel.Channel.{Channel}
 use Rattle.domain.specs.declared.token.Holding.{Holding}
 use Rattle.domain.specs.declared.token.Holding.the-variants.{Free}
 use Rattle.domain.specs.Cells.{no-channel, kind, channel-of, with-marks, with-guests}
-use Rattle.domain.specs.Tables.{Users, Channels, Domain, link, attached, stays-on, remove-users, channel, sweep-channels, lapses, marked, sweep-tokens, seen}
+use Rattle.domain.specs.Tables.{Users, Channels, Domain, link, attached, stays-on, remove-users, channel, sweep-channels, lapses, narrowed, sweep-tokens, seen}
 use Rattle.domain.specs.Tokens.{lose, lose-offer}
-use Rattle.domain.specs.Channels.{places, private}
+use Rattle.domain.specs.Channels.{places, private-marks}
 use Rattle.domain.specs.Leaving.{fate-of, fate, ended, returned, farewell, leave, those-on, detach, close}
 use Rattle.domain_laws.specs.Same.{home-of, Role, role-of, channel-at, token-at, Same}
 use Rattle.domain.proofs.invariant.Sound.{Seated, Sound}
@@ -53,8 +53,8 @@ module _ (us vs us′ vs′ : Users) (t′ : Twins us′ vs′) (gone gone′ : 
 -- ---- channels after a sweep
 
 -- a channel with fewer marks
-pub marked-says : (us vs : Users) (a b : Channel) (m n : ℕ) → role-of us (kind a) ≡ role-of vs (kind b) → lapses (kind a) ≡ lapses (kind b) → m ≡ n → says us (marked a m) ≡ says vs (marked b n)
-unfolding marked kind with-marks
+pub marked-says : (us vs : Users) (a b : Channel) (m n : ℕ) → role-of us (kind a) ≡ role-of vs (kind b) → lapses (kind a) ≡ lapses (kind b) → m ≡ n → says us (narrowed a m) ≡ says vs (narrowed b n)
+unfolding narrowed kind with-marks
 marked-says us vs a b m n e f g = rw (f, g) (go (lapses (kind b) && eqb n 0))
   where
     go : (c : Bool) → says us (if c then none else some (with-marks a n)) ≡ says vs (if c then none else some (with-marks b n))
@@ -90,16 +90,16 @@ private-said us ch g adm m e new n = ap (said-of us) (guests-changed ch g adm m 
 
 -- a user's own channel, by the user's place
 abbrev own-fate : (gone : ℕ) (ch : Channel) (n : ℕ) → Place → Option Channel
-own-fate gone ch n w = elim w [ At i ↦ if has gone i then none else marked ch n | Nowhere ↦ marked ch n ]
+own-fate gone ch n w = elim w [ At i ↦ if has gone i then none else narrowed ch n | Nowhere ↦ narrowed ch n ]
 
 pub fate-there : (us : Users) (gone live c : ℕ) (ch : Channel) (i : ℕ) → find (us .ids) c ≡ At i
-    → fate-of us gone live c ch User ≡ (if has gone i then none else marked ch (meet links (ch .marks) live))
+    → fate-of us gone live c ch User ≡ (if has gone i then none else narrowed ch (meet connections (ch .marks) live))
 unfolding fate-of
-fate-there us gone live c ch i e = ap (own-fate gone ch (meet links (ch .marks) live)) e
+fate-there us gone live c ch i e = ap (own-fate gone ch (meet connections (ch .marks) live)) e
 
-fate-nowhere : (us : Users) (gone live c : ℕ) (ch : Channel) → find (us .ids) c ≡ Nowhere → fate-of us gone live c ch User ≡ marked ch (meet links (ch .marks) live)
+fate-nowhere : (us : Users) (gone live c : ℕ) (ch : Channel) → find (us .ids) c ≡ Nowhere → fate-of us gone live c ch User ≡ narrowed ch (meet connections (ch .marks) live)
 unfolding fate-of
-fate-nowhere us gone live c ch e = ap (own-fate gone ch (meet links (ch .marks) live)) e
+fate-nowhere us gone live c ch e = ap (own-fate gone ch (meet connections (ch .marks) live)) e
 
 -- ---- users who leave
 
@@ -198,13 +198,13 @@ module _ (d e : Domain) (s : Sound d) (r : Sound e) (x : Same d e) where
 
     -- channels
     fate-says : (c : ℕ) (a b : Channel) → ChannelTwin us vs a b → says us′ (fate us gone live c a) ≡ says vs′ (fate vs gone′ live c b)
-    unfolding fate fate-of private role-of
+    unfolding fate fate-of private-marks role-of
     fate-says c a b m = by (m .kinds) refl refl
       where
-        fewer : role-of us′ (kind a) ≡ role-of vs′ (kind b) → says us′ (marked a (meet links (a .marks) live)) ≡ says vs′ (marked b (meet links (b .marks) live))
-        fewer f = marked-says us′ vs′ a b _ _ f (kind-lapses us vs twins (m .kinds)) (ap (λ (z : ℕ). meet links z live) (m .marks))
+        fewer : role-of us′ (kind a) ≡ role-of vs′ (kind b) → says us′ (narrowed a (meet connections (a .marks) live)) ≡ says vs′ (narrowed b (meet connections (b .marks) live))
+        fewer f = marked-says us′ vs′ a b _ _ f (kind-lapses us vs twins (m .kinds)) (ap (λ (z : ℕ). meet connections z live) (m .marks))
 
-        plainly : {k l : Kind} → kind a ≡ k → kind b ≡ l → role-of us′ k ≡ role-of vs′ l → says us′ (marked a (meet links (a .marks) live)) ≡ says vs′ (marked b (meet links (b .marks) live))
+        plainly : {k l : Kind} → kind a ≡ k → kind b ≡ l → role-of us′ k ≡ role-of vs′ l → says us′ (narrowed a (meet connections (a .marks) live)) ≡ says vs′ (narrowed b (meet connections (b .marks) live))
         plainly f g h = fewer (ap (role-of us′) f ∙ h ∙ sym (ap (role-of vs′) g))
 
         own-role : role-of us′ User ≡ role-of vs′ User
@@ -214,7 +214,7 @@ module _ (d e : Domain) (s : Sound d) (r : Sound e) (x : Same d e) where
         own f g (there {i} {j} v w l) =
             ap (says us′) (fate-there us gone live c a i v) ∙ choose (has gone i) (has gone′ j) (away i j (record { id = c; left = v; right = w })) ∙ sym (ap (says vs′) (fate-there vs gone′ live c b j w))
           where
-            choose : (p q : Bool) → p ≡ q → says us′ (if p then none else marked a (meet links (a .marks) live)) ≡ says vs′ (if q then none else marked b (meet links (b .marks) live))
+            choose : (p q : Bool) → p ≡ q → says us′ (if p then none else narrowed a (meet connections (a .marks) live)) ≡ says vs′ (if q then none else narrowed b (meet connections (b .marks) live))
             choose p q o = either (λ y z. says us′ y ≡ says vs′ z) p q o refl (plainly f g own-role)
         own f g (nowhere v w) = ap (says us′) (fate-nowhere us gone live c a v) ∙ plainly f g own-role ∙ sym (ap (says vs′) (fate-nowhere vs gone′ live c b w))
 
@@ -224,7 +224,7 @@ module _ (d e : Domain) (s : Sound d) (r : Sound e) (x : Same d e) where
         by (both-private {g = p} {h = q} {m = u} {n = v} o y) f g = either-by (λ y z. says us′ y ≡ says vs′ z) (has gone p) (has gone′ q) (away p q o) (λ z. refl) (λ z.
             ap some (private-said us′ a p u (a .marks) (m .plain-left ∙ ap (λ (k : Kind). channel-of k (a .marks)) f) _ _
             ∙ ap₂ (λ (k : Role) (n : ℕ). (k, n)) (kind-says us′ vs′ twins′ (both-private (pairs p q o z) (sets u v y)))
-            (ap₂ (meet links) (ap (λ (k : ℕ). meet links k live) (m .marks)) (match-hosts us vs twins (match-with us vs twins _ _ (match-minus us vs twins u v y gone gone′ away) o)))
+            (ap₂ (meet connections) (ap (λ (k : ℕ). meet connections k live) (m .marks)) (match-hosts us vs twins (match-with us vs twins _ _ (match-minus us vs twins u v y gone gone′ away) o)))
             ∙ sym (private-said vs′ b q v (b .marks) (m .plain-right ∙ ap (λ (k : Kind). channel-of k (b .marks)) g) _ _)))
         by both-assigned f g = plainly f g refl
 
@@ -299,4 +299,4 @@ module _ (d e : Domain) (s : Sound d) (r : Sound e) (x : Same d e) where
 
   pub close-both : (p : ℕ) → Both Same (close d p) (close e p)
   unfolding close
-  close-both p = leave-alike _ (ap (λ (m : ℕ). without links m p) (x .links)) (those-on-same p (inOrder (us .ids)) ∙ ap (those-on vs p) (in-order-same (us .ids) (vs .ids) users-found))
+  close-both p = leave-alike _ (ap (λ (m : ℕ). without connections m p) (x .links)) (those-on-same p (inOrder (us .ids)) ∙ ap (those-on vs p) (in-order-same (us .ids) (vs .ids) users-found))

@@ -14,7 +14,7 @@ use Rattle.domain.specs.declared.token.Holding.{Holding}
 use Rattle.domain.specs.declared.token.Holding.the-variants.{Giving}
 use Rattle.domain.specs.Cells.{no-token, hold}
 use Rattle.domain.specs.Tables.{Users, Tokens, Domain, link, state, is-free, set-token, at-limit}
-use Rattle.domain.specs.Tokens.{Turned, status, grabbed-by, offered-to, answered}
+use Rattle.domain.specs.Tokens.{Turned, status, grabbed-by, offered-to, responded}
 use Rattle.domain.specs.Effects.{Effect, ignored, done, from}
 use Rattle.domain.specs.Passing.{turn, take-token, share-token, drop-token, offer, informed, answer, please, test}
 use Rattle.domain.specs.Events.{tokens-full}
@@ -157,7 +157,7 @@ module _ (d e : Domain) (s : Sound d) (r : Sound e) (x : Same d e) where
           offered i j (record { id = u; left = a; right = b }) (found-seated us u i a) (found-seated vs u j b) (offered-to (state (d .tokens) k) i) refl (offered-to (state (e .tokens) k) j) refl)
         where
           then-is : Tokens → ℕ → Holding
-          then-is ts i = answered (eqb n successful) (state ts k) i
+          then-is ts i = responded (eqb n successful) (state ts k) i
 
           offered : (i j : ℕ) → Pair us vs i j → Seated us i → Seated vs j → (f : Bool) → offered-to (state (d .tokens) k) i ≡ f → (g : Bool) → offered-to (state (e .tokens) k) j ≡ g
               → Both After (if f then done (set-token (d .tokens) k (then-is (d .tokens) i)) (informed us n k (state (d .tokens) k) (then-is (d .tokens) i)) else ignored)

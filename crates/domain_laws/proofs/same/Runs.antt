@@ -4,16 +4,16 @@ use mathlib.Core.Bool.{So}
 use mathlib.Core.List.{List, [], _∷_, _++_}
 use Prim.Native.Nat.{ℕ}
 use lib.ListN.{length, drop}
-use Rattle.cols_spec.specs.Sets.{all, listed, links}
+use Rattle.cols_spec.specs.Sets.{all, listed, connections}
 use Rattle.cols_spec.specs.Places.{find, load}
 use Rattle.cols_spec.proofs.Bools.{and-parts}
 use Rattle.out_records.specs.Records.{Sent, records}
 use Rattle.domain.specs.Cells.{no-channel}
 use Rattle.domain.specs.Tables.{Domain, channel}
-use Rattle.domain.specs.Outcomes.{audience, after, turned as turned-room}
+use Rattle.domain.specs.Outcomes.{audience, after, step-settled as turned-room}
 use Rattle.domain.specs.Good.{Good}
 use Rattle.domain.specs.History.{History, _▹_}
-use Rattle.domain.specs.Claims.{formed, Turn, run, now, past, turned, goes}
+use Rattle.domain.specs.Claims.{formed, Turn, run, now, past, next-run, goes}
 use Rattle.domain_laws.specs.Same.{Same, same-equivalence, same-run, same-after, same-audience}
 use Rattle.domain.proofs.invariant.GoodIsSound.{good-sound}
 use Rattle.domain.proofs.invariant.Invariant.{good-next}
@@ -36,7 +36,7 @@ equivalence = (
 -- from equal histories
 runs-from : (ts : List Turn) → So (all (λ t. formed (t .0)) ts) → (d e : Domain) → Good d → Good e → Same d e → (h k : History) → h ≡ k
     → (past (goes (run d h) ts) ≡ past (goes (run e k) ts)) × Same (now (goes (run d h) ts)) (now (goes (run e k) ts))
-unfolding goes all past now turned
+unfolding goes all past now next-run
 runs-from [] f d e g i x h k q = (q, x)
 runs-from (t ∷ ts) f d e g i x h k q =
     let p = and-parts (formed (t .0)) (all (λ u. formed (u .0)) ts) f in
@@ -52,10 +52,10 @@ unfolding audience load channel
 audiences d e c g i x = go (channels-where d e (good-sound d g) (good-sound e i) x c)
   where
     heard : ℕ → ℕ
-    heard m = length (listed links m)
+    heard m = length (listed connections m)
 
     go : ChannelWhere (d .users) (e .users) (d .channels) (e .channels) c
-        → length (listed links (load (d .channels .cells) (find (d .channels .ids) c) no-channel .marks)) ≡ length (listed links (load (e .channels .cells) (find (e .channels .ids) c) no-channel .marks))
+        → length (listed connections (load (d .channels .cells) (find (d .channels .ids) c) no-channel .marks)) ≡ length (listed connections (load (e .channels .cells) (find (e .channels .ids) c) no-channel .marks))
     go (there f k m) = rw (f, k) (ap heard (m .marks))
     go (nowhere f k) = rw (f, k)
 

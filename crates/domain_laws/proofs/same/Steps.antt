@@ -7,7 +7,7 @@ use native.Mathlib.Omega.{arith}
 use lib.Dec.{ltb}
 use lib.ListN.{length, getD}
 use borrow.Author.Tests.{not-true}
-use Rattle.cols_spec.specs.Sets.{has, with, links}
+use Rattle.cols_spec.specs.Sets.{has, with, connections}
 use Rattle.cols_spec.specs.Places.{find, found}
 use Rattle.cols_spec.proofs.Bools.{and-parts}
 use Rattle.cols_spec.proofs.Rows.{not-there}
@@ -106,7 +106,7 @@ module _ (d e : Domain) (s : Sound d) (r : Sound e) (x : Same d e) where
     step-alike (opens p) room f = either Alike (ltb 15 p) _ refl (stays-alike 2) (either Alike (has (d .links) p) (has (e .links) p) (open-same p) (stays-alike 3) (record {
       reply = refl;
       sent = refl;
-      tables = record { limits = x .limits; links = ap (λ (m : ℕ). with links m p) (x .links); users = x .users; channels = x .channels; tokens = x .tokens };
+      tables = record { limits = x .limits; links = ap (λ (m : ℕ). with connections m p) (x .links); users = x .users; channels = x .channels; tokens = x .tokens };
     }))
     step-alike (loses p) room f = either Alike _ _ (shut-same p) (stays-alike 2) (ends-alike room (close-both d e s r x p))
     step-alike (hears p m) room f = either Alike _ _ (shut-same p) (stays-alike 2) (answers-alike p m room f)

@@ -8,7 +8,7 @@ use native.Mathlib.Omega.{arith}
 use lib.Dec.{eqb}
 use lib.ListN.{length, getD}
 use borrow.Author.Tests.{eq-eqb, eqb-true}
-use Rattle.cols_spec.specs.Sets.{keep, any, member, has, those, with, without, minus, union, only, seats, links, upto}
+use Rattle.cols_spec.specs.Sets.{keep, any, member, has, those, with, without, minus, union, only, seats, connections, upto}
 use Rattle.cols_spec.specs.Places.{Place, At, Nowhere, find, found, inOrder}
 use Rattle.cols_spec.proofs.Bools.{and-parts, and-both, some-is, none≢some}
 use Rattle.cols_spec.proofs.Below.{any-upto, any-hit}
@@ -239,7 +239,7 @@ module _ (us vs : Users) (t : Twins us vs) where
   -- the connections that have a user of the set
   pub match-hosts : {m n : ℕ} → Match us vs m n → hosts us m ≡ hosts vs n
   unfolding hosts
-  match-hosts {m} {n} x = ap (those links) (fun-ext (λ q. bool-ext _ _ (has-host us vs t m n x q) (has-host vs us (twins-sym t) n m (match-sym x) q)))
+  match-hosts {m} {n} x = ap (those connections) (fun-ext (λ q. bool-ext _ _ (has-host us vs t m n x q) (has-host vs us (twins-sym t) n m (match-sym x) q)))
 
   pub match-eqb : {m n a b : ℕ} → Match us vs m n → Match us vs a b → eqb m a ≡ eqb n b
   match-eqb {m} {n} {a} {b} x y = bool-ext (eqb m a) (eqb n b) (λ h. eq-eqb n b (match-eq us vs t m n x y (eqb-true m a h)))

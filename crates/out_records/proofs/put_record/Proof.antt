@@ -1,6 +1,6 @@
 use Prim.Native.Nat.{_≤_}
 use native.Mathlib.Omega.{arith}
-use Rattle.out_records.specs.Records.{framed}
+use Rattle.out_records.specs.Records.{record-of}
 use Rattle.out_records.proofs.Laying.{put-then, put-allowed, put-refused, allowed-parts}
 use borrow.Author.Needs.{needs}
 use Rattle.out_records.proofs.put_record.Statement.{statement}
@@ -33,7 +33,7 @@ same-length : tie.Need-same-length
 same-length c = search needs
 
 returns : tie.Need-returns
-unfolding framed
+unfolding record-of
 returns c = put-allowed _ _ _ _ _ (c .before .before .before .before .before .before .before .before .before .before .allowed .ensures) (c .before .before .before .before .before .before .before .before .before .if1 .taken) (put-then (c .before .before .before .before .before .before .lay .ensures) (c .before .before .lay2 .ensures))
 
 returns-2 : tie.Need-returns-2

@@ -1,5 +1,5 @@
 use mathlib.Core.Path.{sym, ap, _∙_}
-use Rattle.out_records.specs.Records.{framed}
+use Rattle.out_records.specs.Records.{record-of}
 use Rattle.out_records.proofs.Laying.{framed-length, guarded-all, guarded-none}
 use lib.ListN.{length}
 use borrow.Author.Needs.{needs}
@@ -14,11 +14,11 @@ add-result c = search needs
 
 returns : tie.Need-returns
 returns c = λ q. let m = c .before .before .before .args .m .now in
-    sym (ap length (guarded-all (c .before .allowed .result) 0 m (framed m q) (c .before .allowed .ensures) (c .if1 .taken)) ∙ framed-length m q)
+    sym (ap length (guarded-all (c .before .allowed .result) 0 m (record-of m q) (c .before .allowed .ensures) (c .if1 .taken)) ∙ framed-length m q)
 
 returns-2 : tie.Need-returns-2
 returns-2 c = λ q. let m = c .before .before .before .args .m .now in
-    sym (ap length (guarded-none (c .before .allowed .result) 0 m (framed m q) (c .before .allowed .ensures) (c .if1 .left)))
+    sym (ap length (guarded-none (c .before .allowed .result) 0 m (record-of m q) (c .before .allowed .ensures) (c .if1 .left)))
 
 pub record-size-spec : {M : Type 1} → statement M
 record-size-spec = tie.close (tie.spec allowed-requires add-result returns returns-2)

@@ -13,7 +13,7 @@ use Rattle.domain.specs.Leaving.{detach, close}
 use Rattle.domain.specs.Channels.{admit, expel}
 use Rattle.domain.specs.Effects.{settle, within}
 use Rattle.domain.specs.Events.{act}
-use Rattle.domain.proofs.Effects.{sends-none}
+use Rattle.domain.proofs.Effects.{delivers-none}
 use Rattle.domain.proofs.Requesting.{on-channels}
 use Rattle.serve_read.specs.Requests.{listed-request}
 use borrow.Author.Needs.{needs}
@@ -44,7 +44,7 @@ depart-requires c κs = search needs
 -- src/lib.rt:108:1
 returns : tie.Need-returns
 unfolding listed-request act settle
-returns c = λ l. rw (c .match .keys1) (sends-none 0 _ _ _)
+returns c = λ l. rw (c .match .keys1) (delivers-none 0 _ _ _)
 
 -- src/lib.rt:108:1
 same-length : tie.Need-same-length

@@ -1,6 +1,6 @@
 use mathlib.Core.Path.{refl}
 use Rattle.domain.specs.Cells.{with-guests}
-use Rattle.domain.specs.Channels.{private}
+use Rattle.domain.specs.Channels.{private-marks}
 use Rattle.serve_private.specs.Changes.{changed}
 use borrow.Author.Needs.{needs}
 use Rattle.serve_private.proofs.with_change.Statement.{statement}
@@ -29,7 +29,7 @@ unfolding changed with-guests
 returns c = rw (c .before .enum-told .given .1, c .all-seats .ensures) refl
 
 returns-2 : tie.Need-returns-2
-unfolding changed private with-guests
+unfolding changed private-marks with-guests
 returns-2 c = rw (c .before .before .before .enum-told2 .given .1, c .common-links .ensures, c .before .homes-of .ensures, c .before .before .other-seats .ensures) refl
 
 pub with-change-spec : {M : Type 1} → statement M

@@ -10,7 +10,7 @@ use Rattle.out_records.specs.Records.{records}
 use Rattle.out_records.proofs.Saying.{Saying, runs, fewer, run-size, say-start, say-turn}
 use Rattle.domain.specs.Tables.{Users}
 use Rattle.domain.specs.Channels.{own}
-use Rattle.domain.proofs.Effects.{sends-full, sends-done}
+use Rattle.domain.proofs.Effects.{delivers-full, delivers-done}
 use Rattle.serve_private_tell.specs.Sieve.{Housed, says}
 use Rattle.serve_private_tell.proofs.Hearing.{own-within}
 use Rattle.serve_private_tell.proofs.tell_own.Statement.{statement}
@@ -56,7 +56,7 @@ returns : tie.Need-returns Inv-loop μ-loop
 returns c =
     let a = c .before .before .before .before .before .before .before .before .before .args in λ us h.
     let said = c .before .before .loop .inv .2 us h .said (c .before .loop-test .left) in
-    rw (said .unsaid (c .if1 .taken)) (sends-full 0 tt tt (own us (a .list .now) (says (a .s))) (a .out .now) _ (said .size ∙ sym (zero-add _)) (c .if1 .taken))
+    rw (said .unsaid (c .if1 .taken)) (delivers-full 0 tt tt (own us (a .list .now) (says (a .s))) (a .out .now) _ (said .size ∙ sym (zero-add _)) (c .if1 .taken))
 
 same-length-2 : tie.Need-same-length-2 Inv-loop μ-loop
 same-length-2 c = search needs
@@ -65,7 +65,7 @@ returns-2 : tie.Need-returns-2 Inv-loop μ-loop
 returns-2 c =
     let a = c .before .before .before .before .before .before .before .before .before .args in λ us h.
     let said = c .before .before .loop .inv .2 us h .said (c .before .loop-test .left) in
-    sends-done 0 tt tt (own us (a .list .now) (says (a .s))) (a .out .now) _ (said .size ∙ sym (zero-add _)) (c .if1 .left) _ _ _ refl (said .put (c .if1 .left))
+    delivers-done 0 tt tt (own us (a .list .now) (says (a .s))) (a .out .now) _ (said .size ∙ sym (zero-add _)) (c .if1 .left) _ _ _ refl (said .put (c .if1 .left))
 
 pub tell-own-spec : {M : Type 1} → statement M
 tell-own-spec =

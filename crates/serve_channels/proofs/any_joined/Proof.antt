@@ -6,8 +6,8 @@ use Rattle.cols_spec.specs.Sets.{any}
 use Rattle.domain.specs.Tables.{channels-of}
 use Rattle.domain.specs.Channels.{joined as joinedIn}
 use Rattle.serve_channels.proofs.Parting.{any-here, any-later, any-over}
-use Rattle.serve_channels.proofs.joined_any.Statement.{statement}
-use Rattle.serve_channels.proofs.joined_any.Tie as tie
+use Rattle.serve_channels.proofs.any_joined.Statement.{statement}
+use Rattle.serve_channels.proofs.any_joined.Tie as tie
 
 abbrev Inv-loop : tie.InvT-loop
 Inv-loop ids roles chairs guests marks p listed i₀ i = (i ≤ length listed) × (any (joinedIn (channels-of ids roles chairs guests marks) p) listed ≡ any (joinedIn (channels-of ids roles chairs guests marks) p) (drop i listed))
@@ -18,17 +18,17 @@ abbrev μ-loop : tie.MeasureT-loop
 loop-holds : tie.Need-loop-holds Inv-loop μ-loop
 loop-holds c = (search needs, refl)
 
-mul-joined : tie.Need-mul-joined Inv-loop μ-loop
-mul-joined c = search needs
+mul-is-joined : tie.Need-mul-is-joined Inv-loop μ-loop
+mul-is-joined c = search needs
 
-shared-slice-read-joined : tie.Need-shared-slice-read-joined Inv-loop μ-loop
-shared-slice-read-joined c = search needs
+shared-slice-read-is-joined : tie.Need-shared-slice-read-is-joined Inv-loop μ-loop
+shared-slice-read-is-joined c = search needs
 
-joined-requires : tie.Need-joined-requires Inv-loop μ-loop
-joined-requires c κs = tt
+is-joined-requires : tie.Need-is-joined-requires Inv-loop μ-loop
+is-joined-requires c κs = tt
 
 returns : tie.Need-returns Inv-loop μ-loop
-returns c = sym (c .before .before .before .before .loop .inv .1 ∙ any-here _ _ _ (c .before .before .before .loop-test .taken) (sym (c .before .joined .ensures) ∙ c .if1 .taken))
+returns c = sym (c .before .before .before .before .loop .inv .1 ∙ any-here _ _ _ (c .before .before .before .loop-test .taken) (sym (c .before .is-joined .ensures) ∙ c .if1 .taken))
 
 add-i : tie.Need-add-i Inv-loop μ-loop
 add-i c = search needs
@@ -37,21 +37,21 @@ loop-less : tie.Need-loop-less Inv-loop μ-loop
 loop-less c = search needs
 
 loop-again : tie.Need-loop-again Inv-loop μ-loop
-loop-again c = (search needs, c .before .before .before .before .loop .inv .1 ∙ any-later _ _ _ (c .before .before .before .loop-test .taken) (sym (c .before .joined .ensures) ∙ c .if1 .left))
+loop-again c = (search needs, c .before .before .before .before .loop .inv .1 ∙ any-later _ _ _ (c .before .before .before .loop-test .taken) (sym (c .before .is-joined .ensures) ∙ c .if1 .left))
 
 returns-2 : tie.Need-returns-2 Inv-loop μ-loop
 returns-2 c = sym (c .before .loop .inv .1 ∙ any-over _ _ _ (c .loop-test .left))
 
-pub joined-any-spec : {M : Type 1} → statement M
-joined-any-spec =
+pub any-joined-spec : {M : Type 1} → statement M
+any-joined-spec =
     tie.close
     (tie.spec
     Inv-loop
     μ-loop
     loop-holds
-    mul-joined
-    shared-slice-read-joined
-    joined-requires
+    mul-is-joined
+    shared-slice-read-is-joined
+    is-joined-requires
     returns
     add-i
     loop-less

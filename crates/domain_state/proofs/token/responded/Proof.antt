@@ -1,11 +1,11 @@
 use mathlib.Core.Path.{refl}
-use Rattle.domain.specs.Tokens.{answered}
+use Rattle.domain.specs.Tokens.{responded}
 use borrow.Author.Needs.{needs}
-use Rattle.domain_state.proofs.token.answered.Statement.{statement}
-use Rattle.domain_state.proofs.token.answered.Tie as tie
+use Rattle.domain_state.proofs.token.responded.Statement.{statement}
+use Rattle.domain_state.proofs.token.responded.Tie as tie
 
 returns : tie.Need-returns
-unfolding answered
+unfolding responded
 returns c = rw (c .if1 .taken) refl
 
 enum-known-h : tie.Need-enum-known-h
@@ -24,27 +24,27 @@ enum-known-h-3 : tie.Need-enum-known-h-3
 enum-known-h-3 c = search needs
 
 returns-2 : tie.Need-returns-2
-unfolding answered
+unfolding responded
 returns-2 c = rw (c .before .before .before .if1 .left, c .before .h .given .1) refl
 
 returns-3 : tie.Need-returns-3
-unfolding answered
+unfolding responded
 returns-3 c = rw (c .before .before .if1 .left, c .enum-told .given .1) refl
 
 returns-4 : tie.Need-returns-4
-unfolding answered
+unfolding responded
 returns-4 c = rw (c .before .before .if1 .left, c .enum-told2 .given .1) refl
 
 returns-5 : tie.Need-returns-5
-unfolding answered
+unfolding responded
 returns-5 c = rw (c .before .before .before .if1 .left, c .before .h2 .given .1) refl
 
 returns-6 : tie.Need-returns-6
-unfolding answered
+unfolding responded
 returns-6 c = rw (c .before .before .before .if1 .left, c .before .h3 .given .1) refl
 
-pub answered-spec : {M : Type 1} → statement M
-answered-spec =
+pub responded-spec : {M : Type 1} → statement M
+responded-spec =
     tie.close
     (tie.spec
     returns

@@ -3,5 +3,5 @@ use Prim.Native.Nat.{ℕ}
 use Rattle.domain.specs.declared.Limits.{Limits}
 use Rattle.domain.specs.Tables.{Users, Channels, Tokens, Domain}
 
-abbrev pub joined : (l : Limits) (m : ℕ) (us : Users) (cs : Channels) (ts : Tokens) → Domain
-joined l m us cs ts = record { limits = l; links = m; users = us; channels = cs; tokens = ts }
+abbrev pub assembled : (l : Limits) (m : ℕ) (us : Users) (cs : Channels) (ts : Tokens) → Domain
+assembled l m us cs ts = record { limits = l; links = m; users = us; channels = cs; tokens = ts }
