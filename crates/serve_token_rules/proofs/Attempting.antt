@@ -22,7 +22,7 @@ use Rattle.serve_token_rules.specs.declared.Ask.the-variants.{Grab, Inhi
 use Rattle.serve_token_rules.specs.Deeds.{asked}
 use Rattle.serve_token_rules.specs.Attempts.{refusal, attempted, kindOf}
 use Rattle.serve_token_rules.proofs.Ask.{the-type}
-use Rattle.serve_token_rules.proofs.Asking.{from-at}
+use Rattle.serve_reply.proofs.Initiators.{from-at}
 use Rattle.serve_token_rules.proofs.Deciding.{offer-unknown, offer-refused}
 
 -- whether the limit is reached matters for a free token alone

@@ -21,7 +21,7 @@ use Rattle.domain.specs.declared.token.Turned.{Turned as CodeTurned}
 use Rattle.domain.specs.declared.token.Turned.the-variants.{Fails, Turns as TurnsTo}
 use Rattle.domain.specs.Cells.{token-of}
 use Rattle.domain.specs.Numbers.{resultNumber}
-use Rattle.domain.specs.Tokens.{turnedOf, status, grabbed-by, offered-to, answered}
+use Rattle.domain.specs.Tokens.{turnedOf, status, grabbed-by, offered-to, responded}
 use Rattle.domain.specs.Tables.{Users, Tokens, link, attached, state, set-token}
 use Rattle.domain.specs.Effects.{Effect, done, ignored}
 use Rattle.domain.specs.Passing.{turn, take-token, share-token, drop-token, offer, answer, informed}
@@ -31,7 +31,7 @@ use Rattle.serve_token_rules.specs.declared.Ask.the-variants.{Grab, Inhi
 use Rattle.serve_token_rules.specs.declared.Fate.the-variants.{Ignored, Stays, Turns}
 use Rattle.serve_token_rules.specs.declared.Deed.{Deed}
 use Rattle.serve_token_rules.specs.Deeds.{asked, telling, fated, doing, Does}
-use Rattle.serve_token_rules.proofs.Asking.{from-at, from-nowhere}
+use Rattle.serve_reply.proofs.Initiators.{from-at, from-nobody}
 
 -- ---- a deed, and the effect that it is
 module _ (ts : Tokens) (k : ℕ) where
@@ -70,11 +70,11 @@ module _ (ts : Tokens) (p u i k : ℕ) (kind : Confirm) (t : CodeTurned) {m : Li
 
 pub asked-nowhere : (ask : Ask) (full : Bool) (us : Users) (ts : Tokens) (p u k : ℕ) → attached us p u ≡ Nowhere → asked ask full us ts p u k ≡ ignored
 unfolding take-token share-token drop-token offer answer
-asked-nowhere Grab full us ts p u k e = from-nowhere us p u _ e
-asked-nowhere Inhibit full us ts p u k e = from-nowhere us p u _ e
-asked-nowhere Release full us ts p u k e = from-nowhere us p u _ e
-asked-nowhere (Offer r) full us ts p u k e = from-nowhere us p u _ e
-asked-nowhere (Answer n) full us ts p u k e = from-nowhere us p u _ e
+asked-nowhere Grab full us ts p u k e = from-nobody us p u _ e
+asked-nowhere Inhibit full us ts p u k e = from-nobody us p u _ e
+asked-nowhere Release full us ts p u k e = from-nobody us p u _ e
+asked-nowhere (Offer r) full us ts p u k e = from-nobody us p u _ e
+asked-nowhere (Answer n) full us ts p u k e = from-nobody us p u _ e
 
 -- ---- TVrq
 module _ (us : Users) (ts : Tokens) (p u i k r : ℕ) where
@@ -107,7 +107,7 @@ module _ (us : Users) (ts : Tokens) (p u i k r : ℕ) where
 
 -- ---- TVrs
 module _ (us : Users) (ts : Tokens) (p n u k i : ℕ) (here : attached us p u ≡ At i) {h : Holding} (is : h ≡ state ts k) where
-  pub answer-heard : offered-to h i ≡ true → (next : Holding) → next ≡ answered (eqb n successful) h i → done (set-token ts k next) (informed us n k h next) ≡ answer us ts p n u k
+  pub answer-heard : offered-to h i ≡ true → (next : Holding) → next ≡ responded (eqb n successful) h i → done (set-token ts k next) (informed us n k h next) ≡ answer us ts p n u k
   unfolding answer
   answer-heard o next e = sym (from-at us p u _ i here ∙ rw (← is, o, e) refl)
 

@@ -1,4 +1,3 @@
 -- Deciding what comes of a request about a token.
-pub mod Asking
 pub mod Attempting
 pub mod Deciding

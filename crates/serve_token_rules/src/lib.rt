@@ -10,7 +10,8 @@ ghost use Rattle.out_records.specs.Records.{to, wire};
 ghost use Rattle.out_messages.specs.Confirms.{confirm as confirmOf};
 ghost use Rattle.domain.specs.Numbers.{resultNumber};
 ghost use Rattle.domain.specs.Tokens.{turnedOf, status as statusOf, grabbed-by};
-ghost use Rattle.domain.specs.Tables.{Tokens, users-of, attached, at-limit, is-free, state, set-token};
+ghost use Rattle.domain.specs.Tables.{Tokens, attached, at-limit, is-free, state, set-token};
+ghost use Rattle.domain.specs.Lent.{users-before};
 ghost use Rattle.domain.specs.Passing.{turn as turnOf, answer as answerOf, informed};
 ghost use Rattle.domain.specs.Effects.{done};
 ghost use Rattle.serve_token_rules.specs.Deeds.{Does, asked};
@@ -20,9 +21,6 @@ use domain::token::Holding;
 use domain::token::Token;
 use domain::token::Turned;
 use out_messages::Confirm;
-
-// A place that is nowhere.
-pub const NOWHERE: u8 = 64;
 
 // What is asked for: the token for one user alone, or together with others; its end; that it goes to a user; and what that user answers.
 pub enum Ask {
@@ -46,18 +44,6 @@ pub struct Deed {
     pub told: bool,
     pub q: u8,
     pub m: [u8; 7],
-}
-
-// The place of u, who must be attached on p; 64 is nowhere.
-pub fn asker(user_ids: &[u16; 64], user_links: &[u8; 64], p: u8, u: u16) -> u8
-    ensures { λ r. ⌜ (r ≡ 64 → attached (users-of (now («user_ids» .entry)) (now («user_links» .entry))) p u ≡ Nowhere)
-        × ((r ≡ 64 → ⊥) → attached (users-of (now («user_ids» .entry)) (now («user_links» .entry))) p u ≡ At r) ⌝ }
-{
-    let at = domain_tables::users::attached(user_ids, user_links, p, u);
-    if at < user_ids[..].len() {
-        return at as u8;
-    }
-    NOWHERE
 }
 
 // Where the token is free, whether the limit is reached: the table is counted for no other.
@@ -212,7 +198,7 @@ fn concluded(
     h: Holding,
     next: Holding,
 ) -> Deed
-    ensures { λ r. ⌜ ((ts : Tokens) → Does ts k r (done (set-token ts k next) (informed (users-of (now («user_ids» .entry)) (now («user_links» .entry))) result k h next))) ⌝ }
+    ensures { λ r. ⌜ ((ts : Tokens) → Does ts k r (done (set-token ts k next) (informed (users-before «user_ids» «user_links») result k h next))) ⌝ }
 {
     if let Holding::Giving(g, _) = h {
         return Deed {
@@ -233,7 +219,7 @@ fn concluded(
 }
 
 // TVrs by the user at place i for token k in state h: any result but 0 declines.
-fn answered(
+fn answer_offer(
     user_ids: &[u16; 64],
     user_links: &[u8; 64],
     p: u8,
@@ -243,10 +229,11 @@ fn answered(
     h: Holding,
     result: u8,
 ) -> Deed
-    ensures { λ r. ⌜ ((ts : Tokens) → h ≡ state ts k → attached (users-of (now («user_ids» .entry)) (now («user_links» .entry))) p u ≡ At i → Does ts k r (answerOf (users-of (now («user_ids» .entry)) (now («user_links» .entry))) ts p result u k)) ⌝ }
+    ensures { λ r. ⌜ (let us = users-before «user_ids» «user_links» in
+        ((ts : Tokens) → h ≡ state ts k → attached us p u ≡ At i → Does ts k r (answerOf us ts p result u k))) ⌝ }
 {
     if domain_state::token::is_offered(h, i) {
-        let next = domain_state::token::answered(result == 0, h, i);
+        let next = domain_state::token::responded(result == 0, h, i);
         return concluded(user_ids, user_links, result, k, h, next);
     }
     quiet(Fate::Ignored)
@@ -267,12 +254,13 @@ pub fn decide(
     at: usize,
     ask: Ask,
 ) -> Deed
-    ensures { λ r. ⌜ ((ts : Tokens) → standing (now («token_states» .entry)) (now («token_values» .entry)) at ≡ state ts k → attached (users-of (now («user_ids» .entry)) (now («user_links» .entry))) p u ≡ At i
-        → Does ts k r (asked ask (at-limit limit (now («token_ids» .entry))) (users-of (now («user_ids» .entry)) (now («user_links» .entry))) ts p u k)) ⌝ }
+    ensures { λ r. ⌜ (let us = users-before «user_ids» «user_links» in
+        ((ts : Tokens) → standing (now («token_states» .entry)) (now («token_values» .entry)) at ≡ state ts k → attached us p u ≡ At i
+        → Does ts k r (asked ask (at-limit limit (now («token_ids» .entry))) us ts p u k))) ⌝ }
 {
     if let Ask::Answer(result) = ask {
         let h = domain_tables::tokens::state_at(token_states, token_values, at);
-        return answered(user_ids, user_links, p, u, i, k, h, result);
+        return answer_offer(user_ids, user_links, p, u, i, k, h, result);
     }
     if let Ask::Offer(recipient) = ask {
         let h = domain_tables::tokens::state_at(token_states, token_values, at);

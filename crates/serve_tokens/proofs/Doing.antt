@@ -2,23 +2,24 @@
 use mathlib.Core.Path.{_≡_, refl, sym, ap, _∙_}
 use mathlib.Core.Bool.{Bool, true, false}
 use mathlib.Core.List.{List, [], _∷_}
-use Prim.Native.Nat.{ℕ, _<_}
+use Prim.Native.Nat.{ℕ, _≤_}
 use lib.Dec.{eqb}
 use lib.ListN.{length}
 use types.Run.{OneOf, miss}
 use denote.Enum.Declared.{tagOf}
 use Rattle.cols_spec.specs.Sets.{if_then_else_}
-use Rattle.codec_table.specs.Named.{Message}
-use Rattle.out_records.specs.Records.{to, wire}
+use Rattle.out_records.specs.Records.{to, record-of}
+use Rattle.out_records.specs.Out.{guarded}
 use Rattle.domain.specs.Tables.{Tokens}
 use Rattle.domain.specs.Effects.{Effect, done, ignored, settled, settle}
-use Rattle.domain.proofs.Effects.{sends-none, settle-done}
+use Rattle.domain.proofs.Effects.{delivers-none, settle-done}
 use Rattle.serve_token_rules.specs.declared.Fate.{Fate}
 use Rattle.serve_token_rules.specs.declared.Fate.the-variants.{Ignored, Stays, Turns}
 use Rattle.serve_token_rules.specs.declared.Deed.{Deed}
 use Rattle.serve_token_rules.specs.Deeds.{Told, telling, Tells, fated, doing, Does}
 use Rattle.serve_token_rules.proofs.Fate.{the-type}
-use Rattle.serve_tokens.proofs.Settling.{one-full}
+use Rattle.serve_reply.specs.Whole.{whole}
+use Rattle.serve_reply.proofs.Sending.{confirmed, did-either}
 
 -- ---- who is told
 module _ (d : Deed) (before after : Tokens) (e : Effect Tokens) (out : List ℕ) (t : Tells d after e) where
@@ -26,22 +27,17 @@ module _ (d : Deed) (before after : Tokens) (e : Effect Tokens) (out : List ℕ)
   unfolding telling
   told-one b = rw b at t
 
-  pub told-full : d .told ≡ true → length (d .m) ≡ 7 → length out < 11 → settled 9 0 before out ≡ settle before e out
-  told-full b l h =
-      let one = told-one b in
-      one-full before after (d .q) (one .message) out 7 (sym (ap length (one .octets)) ∙ l) h ∙ ap (λ (x : Effect Tokens). settle before x out) (sym (one .effect))
-
-  pub told-sent : d .told ≡ true → (n k : ℕ) (o : List ℕ) → n ≡ 0 → ((x : Message) → d .m ≡ wire x → settled n k after o ≡ settle before (done after (to (d .q) x ∷ [])) out)
+  pub told-sent : d .told ≡ true → length (d .m) ≤ 1024 → {n k : ℕ} {o : List ℕ} → settled {A = Unit {0}} n k tt o ≡ whole (guarded 0 (d .m) (record-of (d .m) (d .q))) out
       → settled n k (if eqb n 9 then before else after) o ≡ settle before e out
-  told-sent b n k o z sent =
+  told-sent b l h =
       let one = told-one b in
-      rw z (rw z at (sent (one .message) (one .octets))) ∙ ap (λ (x : Effect Tokens). settle before x out) (sym (one .effect))
+      did-either (to (d .q) (one .message) ∷ []) out (confirmed (one .message) (d .q) out (one .octets) l h) before after ∙ ap (λ (x : Effect Tokens). settle before x out) (sym (one .effect))
 
   pub told-none : d .told ≡ false → settled 0 0 after out ≡ settle before e out
   unfolding telling
   told-none b =
       let none : e ≡ done after [] = rw b at t in
-      sends-none 0 before after out ∙ settle-done before out after [] ∙ ap (λ (x : Effect Tokens). settle before x out) (sym none)
+      delivers-none 0 before after out ∙ settle-done before out after [] ∙ ap (λ (x : Effect Tokens). settle before x out) (sym none)
 
 -- ---- what becomes of the token
 pub unfated : (ts : Tokens) (k : ℕ) (fate : Fate) → OneOf (0 ∷ 1 ∷ []) (tagOf the-type fate) → ts ≡ fated ts k fate

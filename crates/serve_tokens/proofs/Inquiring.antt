@@ -16,7 +16,7 @@ use Rattle.serve_read.specs.Requests.{pass-request, token-request}
 use Rattle.serve_token_rules.specs.declared.Ask.{Ask}
 use Rattle.serve_token_rules.specs.declared.Ask.the-variants.{Grab, Inhibit, Release, Offer, Answer}
 use Rattle.serve_token_rules.specs.Deeds.{asked}
-use Rattle.serve_token_rules.proofs.Asking.{from-nowhere}
+use Rattle.serve_reply.proofs.Initiators.{from-nobody}
 use Rattle.serve_token_rules.proofs.Deciding.{asked-nowhere}
 
 module _ (new : ℕ) (d : Domain) (p n u k more : ℕ) where
@@ -43,8 +43,8 @@ module _ (new : ℕ) (d : Domain) (p n u k more : ℕ) where
       go : (x y r s t v : Bool)
           → act new d p (if x then TTrq u k else if y then TPrq u k else if r then TGrq u k else if s then TIrq u k else if t then TVrq u k more else if v then TVrs (more % 16) u k else TRrq u k)
           ≡ within (put-tokens d) ignored
-      go true y r s t v = ap (within (put-tokens d)) (from-nowhere (d .users) p u _ h)
-      go false true r s t v = ap (within (put-tokens d)) (from-nowhere (d .users) p u _ h)
+      go true y r s t v = ap (within (put-tokens d)) (from-nobody (d .users) p u _ h)
+      go false true r s t v = ap (within (put-tokens d)) (from-nobody (d .users) p u _ h)
       go false false true s t v = none Grab
       go false false false true t v = none Inhibit
       go false false false false true v = none (Offer more)

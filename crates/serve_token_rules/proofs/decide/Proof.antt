@@ -15,11 +15,11 @@ enum-known-ask c = search needs
 state-at-requires : tie.Need-state-at-requires
 state-at-requires c κs = search needs
 
-answered-requires : tie.Need-answered-requires
-answered-requires c κs = search needs
+answer-offer-requires : tie.Need-answer-offer-requires
+answer-offer-requires c κs = search needs
 
 returns : tie.Need-returns
-returns c = λ ts is here. rw (c .before .before .before .ask .given .1) (c .answered .ensures ts (c .before .state-at .ensures ∙ is) here)
+returns c = λ ts is here. rw (c .before .before .before .ask .given .1) (c .answer-offer .ensures ts (c .before .state-at .ensures ∙ is) here)
 
 enum-known-ask-2 : tie.Need-enum-known-ask-2
 enum-known-ask-2 c = search needs
@@ -75,7 +75,7 @@ decide-spec =
     (tie.spec
     enum-known-ask
     state-at-requires
-    answered-requires
+    answer-offer-requires
     returns
     enum-known-ask-2
     state-at-requires-2
