@@ -1,5 +1,5 @@
 #!/usr/bin/env python3
-"""Cases for crates/torn, by a model of document 02's T-13 that knows nothing of the code.
+"""Cases for crates/test_salvage, by a model of T-13 that knows nothing of the code.
 
     cases.py SEED COUNT CASES LINES    writes COUNT cases, and the lines that torn must print
     cases.py check SEEDS               the model against the sentence itself, and V1 to V5
