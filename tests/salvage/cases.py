@@ -1,7 +1,7 @@
 #!/usr/bin/env python3
 """Cases for crates/test_salvage, by a model of T-13 that knows nothing of the code.
 
-    cases.py SEED COUNT CASES LINES    writes COUNT cases, and the lines that torn must print
+    cases.py SEED COUNT CASES LINES    writes COUNT cases, and the lines that test_salvage must print
     cases.py check SEEDS               the model against the sentence itself, and V1 to V5
     cases.py model FILE                what the program salvaged must write to both its outputs
 
