@@ -1,7 +1,8 @@
-// The provider over the fields of a struct that are lent one by one, for one lifetime. Its answers are numbers.
+// The provider over the fields of a struct that are lent one by one, for one lifetime. Its answers are numbers, and a connection is any number of C's.
 ghost use mathlib.Core.Path.{_≡_};
+ghost use mathlib.Core.Logic.{_⊎_};
 ghost use mathlib.Core.List.{List};
-ghost use Prim.Native.Nat.{ℕ};
+ghost use Prim.Native.Nat.{ℕ, _<_};
 ghost use Rattle.cols_spec.specs.Places.{used};
 ghost use Rattle.domain.specs.Tables.{Domain};
 ghost use Rattle.domain.specs.Lent.{channels-before, domain-after, domain-before};
@@ -90,12 +91,13 @@ pub fn open<'a>(
     token_ids: &'a mut [u16; 64],
     token_states: &'a mut [u8; 64],
     token_values: &'a mut [u64; 64],
-    p: u8,
+    p: u32,
 ) -> u32
     ensures { λ r. ⌜ ((out : List ℕ) → settled r 0 (domain-after (limited (now (channels .exit)) (now (users .exit)) (now (tokens .exit))) links «user_ids» «user_links» «channel_ids» «channel_kinds» managers admitted joined «token_ids» «token_states» «token_values») out
         ≡ after (domain-before (limited (now (channels .entry)) (now (users .entry)) (now (tokens .entry))) links «user_ids» «user_links» «channel_ids» «channel_kinds» managers admitted joined «token_ids» «token_states» «token_values») (opens p) out) ⌝ }
 {
-    let reply = serve_session::open(links, p);
+    let q = link_of(p);
+    let reply = serve_session::open(links, q);
     reply_number(reply) as u32
 }
 
@@ -115,12 +117,13 @@ pub fn lose<'a>(
     token_ids: &'a mut [u16; 64],
     token_states: &'a mut [u8; 64],
     token_values: &'a mut [u64; 64],
-    p: u8,
+    p: u32,
     out: &mut [u8],
 ) -> Answered
     ensures { λ r. ⌜ settled (r .reply) (r .sent) (domain-after (limited (now (channels .exit)) (now (users .exit)) (now (tokens .exit))) links «user_ids» «user_links» «channel_ids» «channel_kinds» managers admitted joined «token_ids» «token_states» «token_values») (now (out .exit))
         ≡ after (domain-before (limited (now (channels .entry)) (now (users .entry)) (now (tokens .entry))) links «user_ids» «user_links» «channel_ids» «channel_kinds» managers admitted joined «token_ids» «token_states» «token_values») (loses p) (now (out .entry)) ⌝ }
 {
+    let q = link_of(p);
     let a = provider::lose(
         links,
         user_ids,
@@ -133,7 +136,7 @@ pub fn lose<'a>(
         token_ids,
         token_states,
         token_values,
-        p,
+        q,
         out,
     );
     numbered(a)
@@ -155,13 +158,14 @@ pub fn message<'a>(
     token_ids: &'a mut [u16; 64],
     token_states: &'a mut [u8; 64],
     token_values: &'a mut [u64; 64],
-    p: u8,
+    p: u32,
     octets: &[u8],
     out: &mut [u8],
 ) -> Answered
     ensures { λ r. ⌜ settled (r .reply) (r .sent) (domain-after (limited (now (channels .exit)) (now (users .exit)) (now (tokens .exit))) links «user_ids» «user_links» «channel_ids» «channel_kinds» managers admitted joined «token_ids» «token_states» «token_values») (now (out .exit))
         ≡ after (domain-before (limited (now (channels .entry)) (now (users .entry)) (now (tokens .entry))) links «user_ids» «user_links» «channel_ids» «channel_kinds» managers admitted joined «token_ids» «token_states» «token_values») (hears p (understood (now (octets .entry)))) (now (out .entry)) ⌝ }
 {
+    let q = link_of(p);
     let limits = Limits {
         channels: *channels,
         users: *users,
@@ -180,11 +184,21 @@ pub fn message<'a>(
         token_ids,
         token_states,
         token_values,
-        p,
+        q,
         octets,
         out,
     );
     numbered(a)
+}
+
+// A connection's number as an octet: its own up to 15. Above 15 there are no connections, and 255 stands for them all.
+fn link_of(p: u32) -> u8
+    ensures { λ r. ⌜ (r ≡ p) ⊎ ((15 < r) × (15 < p)) ⌝ }
+{
+    if 15 < p {
+        return 255;
+    }
+    p as u8
 }
 
 // An answer with its reply as a number.

@@ -1,4 +1,4 @@
--- `cols_walk::audience`: the provider's own equation.
+-- `c_fields::audience`: the provider's own equation.
 use borrow.Author.Needs.{needs}
 use Rattle.c_fields.proofs.audience.Statement.{statement}
 use Rattle.c_fields.proofs.audience.Tie as tie

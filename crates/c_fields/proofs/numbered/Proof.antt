@@ -1,4 +1,4 @@
--- `cols_walk::numbered`: the reply's number; the octets sent are as they were.
+-- `c_fields::numbered`: the reply's number; the octets sent are as they were.
 use mathlib.Core.Path.{refl}
 use borrow.Author.Needs.{needs}
 use Rattle.c_fields.proofs.numbered.Statement.{statement}

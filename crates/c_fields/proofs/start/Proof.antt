@@ -1,4 +1,4 @@
--- `cols_walk::start`: done, the new limits are stored; refused, those before stay.
+-- `c_fields::start`: done, the new limits are stored; refused, those before stay.
 use mathlib.Core.Path.{sym, _∙_}
 use mathlib.Core.Logic.{⊎-elim}
 use borrow.Author.Needs.{needs}
