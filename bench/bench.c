@@ -69,7 +69,7 @@ static void compare_one(size_t i, size_t room)
     }
     if (memcmp(our_room, plain_room, ROOM))
         fail("the room", i);
-    if (ours.links != plain.open || in_use(ours.names, 64) != plain.users || in_use(ours.ids, 128) != plain.channels || in_use(ours.keys, 64) != plain.tokens)
+    if (ours.links != plain.open || in_use(ours.user_ids, 64) != plain.users || in_use(ours.channel_ids, 128) != plain.channels || in_use(ours.token_ids, 64) != plain.tokens)
         fail("what is in use", i);
 }
 

@@ -46,7 +46,7 @@ static uint32_t reject_of(size_t n)
     m[1] = 0x00;
     m[2] = (uint8_t)(0x80 | n / 256);
     m[3] = (uint8_t)(n % 256);
-    return message_number(m, n + 4);
+    return ladlestorm_message_number(m, n + 4);
 }
 
 static int compare(const char *name, uint32_t wanted, uint32_t given)
@@ -61,7 +61,7 @@ int main(void)
 {
     int passed = 0, failed = 0;
     for (size_t i = 0; i < sizeof table / sizeof table[0]; i++) {
-        int wrong = compare(table[i].name, table[i].answer, message_number(table[i].octets, table[i].length));
+        int wrong = compare(table[i].name, table[i].answer, ladlestorm_message_number(table[i].octets, table[i].length));
         failed += wrong;
         passed += !wrong;
     }

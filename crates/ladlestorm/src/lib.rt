@@ -1,5 +1,6 @@
-// The edge for a conference bridge written in C: one domain in a struct that the bridge keeps. Each function lends the struct's fields to
-// the provider; any contents are taken.
+// What a conference bridge written in C calls: one domain in a struct that the bridge keeps. Each function lends the struct's fields to
+// `c_fields`; any contents are taken. include/ladlestorm.h has the functions for C; those with `raw` in their name take octets or a room,
+// and the header has one around each, which takes NULL with length 0.
 ghost use mathlib.Core.Path.{_≡_};
 ghost use mathlib.Core.List.{List};
 ghost use Prim.Native.Nat.{ℕ};
@@ -61,7 +62,7 @@ pub extern "C" fn ladlestorm_start(d: &mut Domain, channels: u32, users: u32, to
 
 // Connection p opens.
 #[no_mangle]
-pub extern "C" fn ladlestorm_open(d: &mut Domain, p: u8) -> u32
+pub extern "C" fn ladlestorm_open(d: &mut Domain, p: u32) -> u32
     ensures { λ r. ⌜ ((out : List ℕ) → settled r 0 (domain-in (now (d .exit))) out ≡ after (domain-in (now (d .entry))) (opens p) out) ⌝ }
 {
     c_fields::open(
@@ -85,7 +86,7 @@ pub extern "C" fn ladlestorm_open(d: &mut Domain, p: u8) -> u32
 
 // Connection p is lost.
 #[no_mangle]
-pub extern "C" fn ladlestorm_lose(d: &mut Domain, p: u8, out: &mut [u8]) -> Answered
+pub extern "C" fn ladlestorm_raw_lose(d: &mut Domain, p: u32, out: &mut [u8]) -> Answered
     ensures { λ r. ⌜ settled (r .reply) (r .sent) (domain-in (now (d .exit))) (now (out .exit)) ≡ after (domain-in (now (d .entry))) (loses p) (now (out .entry)) ⌝ }
 {
     c_fields::lose(
@@ -110,9 +111,9 @@ pub extern "C" fn ladlestorm_lose(d: &mut Domain, p: u8, out: &mut [u8]) -> Answ
 
 // A message on connection p: any octets.
 #[no_mangle]
-pub extern "C" fn ladlestorm_message(
+pub extern "C" fn ladlestorm_raw_message(
     d: &mut Domain,
-    p: u8,
+    p: u32,
     octets: &[u8],
     out: &mut [u8],
 ) -> Answered

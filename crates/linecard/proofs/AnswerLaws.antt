@@ -1,4 +1,4 @@
--- What `message_number` answers. Assumes nothing.
+-- What `ladlestorm_raw_message_number` answers. Assumes nothing.
 use mathlib.Core.Path.{_≡_, sym, ap, _∙_}
 use mathlib.Core.Bool.{true, false, false≢true}
 use mathlib.Core.List.{List}

@@ -7,7 +7,11 @@ const NOT_READ: u32 = 64;
 // A message by the short ways, as the provider tries them: its number; in the cells lent its values in the message's order, or, where it has a list of
 // ids, the values before the list and how many ids, which go into the list lent. 64 where no short way reads it.
 #[no_mangle]
-pub extern "C" fn read_quick(s: &[u8], values: &mut [u16; 3], list: &mut [u16; 64]) -> u32 {
+pub extern "C" fn ladlestorm_test_read_fast(
+    s: &[u8],
+    values: &mut [u16; 3],
+    list: &mut [u16; 64],
+) -> u32 {
     let w = codec_read_fast::tokens::read_token(s);
     if w.ok {
         *values = in_order(w.number == 35, w.user, w.token, w.more);
@@ -36,7 +40,11 @@ fn in_order(result_first: bool, user: u16, token: u16, more: u16) -> [u16; 3] {
 
 // Any message, by the table of messages: how many ids it lists; in the cells lent its number, its values, and the refusal behind them.
 #[no_mangle]
-pub extern "C" fn read_any(s: &[u8], values: &mut [u32; 6], list: &mut [u16; 64]) -> u32 {
+pub extern "C" fn ladlestorm_test_read_any(
+    s: &[u8],
+    values: &mut [u32; 6],
+    list: &mut [u16; 64],
+) -> u32 {
     let h = codec_read::read_into(s, list);
     let read = h.values;
     *values = [
@@ -52,7 +60,7 @@ pub extern "C" fn read_any(s: &[u8], values: &mut [u32; 6], list: &mut [u16; 64]
 
 // A confirm of a token's request, the short way: how many octets; 0 where it is not written so.
 #[no_mangle]
-pub extern "C" fn write_brief(
+pub extern "C" fn ladlestorm_test_write_fast(
     out: &mut [u8],
     number: u32,
     result: u32,
@@ -71,7 +79,7 @@ pub extern "C" fn write_brief(
 
 // The same by the table of messages: how many octets, or 64 and the refusal.
 #[no_mangle]
-pub extern "C" fn write_any(
+pub extern "C" fn ladlestorm_test_write_any(
     out: &mut [u8],
     number: u32,
     result: u32,

@@ -1,5 +1,5 @@
 -- `ladlestorm::ladlestorm_start` meets its contract: a walk of its MIR. The struct's fields are lent to `c_fields::start` for a lifetime that is made for
--- the call, and the struct comes back at what they held last (`Changing.antt`). tests/bridge/walks writes this file. Assumes nothing.
+-- the call, and the struct comes back at what they held last (`Changing.antt`). tests/ladlestorm/walks writes this file. Assumes nothing.
 use mathlib.Core.Path.{_≡_, refl}
 use mathlib.Core.List.{[], _∷_}
 use Prim.Native.Nat.{ℕ, _<_, _^_}

@@ -28,7 +28,7 @@ static void told(const char *what, uint32_t reply, size_t sent)
     deliver(sent);
 }
 
-static void hears(const char *what, uint8_t p, const uint8_t *octets, size_t length)
+static void hears(const char *what, uint32_t p, const uint8_t *octets, size_t length)
 {
     struct ladlestorm_answered a = ladlestorm_message(&domain, p, octets, length, room, sizeof room);
     told(what, a.reply, a.sent);

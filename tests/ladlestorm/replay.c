@@ -20,7 +20,7 @@ struct text {
 
 static struct text contents(const char *name)
 {
-    struct text t = {malloc(1 << 20), 0};
+    struct text t = {(unsigned char *)malloc(1 << 20), 0};
     FILE *f = fopen(name, "rb");
     if (!f || !t.octets) {
         fprintf(stderr, "cannot read %s\n", name);

@@ -22,7 +22,7 @@ static uint32_t dice(uint32_t below)
     return (uint32_t)(seed >> 33) % below;
 }
 
-/* Few ids, so that they meet; any kind, place and mode. */
+/* Few ids, so that they meet; any kind, place and state. */
 static void scramble(void)
 {
     uint8_t *octets = (uint8_t *)&kept.domain;
@@ -30,11 +30,11 @@ static void scramble(void)
     for (i = 0; i < sizeof kept.domain; i++)
         octets[i] = (uint8_t)(dice(4) ? dice(6) : dice(256));
     for (i = 0; i < 64; i++) {
-        kept.domain.names[i] = (uint16_t)(dice(2) ? 1001 + dice(8) : dice(65536));
-        kept.domain.keys[i] = (uint16_t)dice(8);
+        kept.domain.user_ids[i] = (uint16_t)(dice(2) ? 1001 + dice(8) : dice(65536));
+        kept.domain.token_ids[i] = (uint16_t)dice(8);
     }
     for (i = 0; i < 128; i++)
-        kept.domain.ids[i] = (uint16_t)(dice(2) ? 1001 + dice(16) : dice(12));
+        kept.domain.channel_ids[i] = (uint16_t)(dice(2) ? 1001 + dice(16) : dice(12));
     kept.domain.links = (uint16_t)(dice(65536) | (dice(4) ? 0x3F : 0));
 }
 
@@ -69,7 +69,7 @@ static void turn(void)
     static uint8_t octets[1200];
     static struct ladlestorm_domain was;
     size_t length = message(octets), room = dice(4) ? LADLESTORM_ROOM : dice(200);
-    uint8_t p = (uint8_t)(dice(8) ? dice(6) : dice(256));
+    uint32_t p = dice(8) ? dice(6) : dice(2) ? dice(256) : dice(6) + 256 * dice(1 << 24);
     uint32_t kind = dice(8);
     struct ladlestorm_answered a = {0, 0};
     if (dice(30) == 0)
@@ -83,6 +83,7 @@ static void turn(void)
     else
         a = ladlestorm_message(&kept.domain, p, octets, length, kept.room, room);
     expect(a.reply <= LADLESTORM_NO_ROOM, "a reply that is not listed");
+    expect(p < LADLESTORM_CONNECTIONS || a.reply == LADLESTORM_NOT_OPEN, "a connection above 15 was taken");
     expect(a.sent <= room, "more sent than there is room");
     expect(marked(kept.room + a.sent, sizeof kept.room - a.sent), "an octet behind the records was written");
     expect(marked(kept.before, AROUND) && marked(kept.between, AROUND) && marked(kept.after, AROUND), "an octet beside the struct or the room was written");
