@@ -96,8 +96,7 @@ pub fn open<'a>(
     ensures { λ r. ⌜ ((out : List ℕ) → settled r 0 (domain-after (limited (now (channels .exit)) (now (users .exit)) (now (tokens .exit))) links «user_ids» «user_links» «channel_ids» «channel_kinds» managers admitted joined «token_ids» «token_states» «token_values») out
         ≡ after (domain-before (limited (now (channels .entry)) (now (users .entry)) (now (tokens .entry))) links «user_ids» «user_links» «channel_ids» «channel_kinds» managers admitted joined «token_ids» «token_states» «token_values») (opens p) out) ⌝ }
 {
-    let q = link_of(p);
-    let reply = serve_session::open(links, q);
+    let reply = serve_session::open(links, link_of(p));
     reply_number(reply) as u32
 }
 
@@ -123,7 +122,6 @@ pub fn lose<'a>(
     ensures { λ r. ⌜ settled (r .reply) (r .sent) (domain-after (limited (now (channels .exit)) (now (users .exit)) (now (tokens .exit))) links «user_ids» «user_links» «channel_ids» «channel_kinds» managers admitted joined «token_ids» «token_states» «token_values») (now (out .exit))
         ≡ after (domain-before (limited (now (channels .entry)) (now (users .entry)) (now (tokens .entry))) links «user_ids» «user_links» «channel_ids» «channel_kinds» managers admitted joined «token_ids» «token_states» «token_values») (loses p) (now (out .entry)) ⌝ }
 {
-    let q = link_of(p);
     let a = provider::lose(
         links,
         user_ids,
@@ -136,7 +134,7 @@ pub fn lose<'a>(
         token_ids,
         token_states,
         token_values,
-        q,
+        link_of(p),
         out,
     );
     numbered(a)
@@ -165,7 +163,6 @@ pub fn message<'a>(
     ensures { λ r. ⌜ settled (r .reply) (r .sent) (domain-after (limited (now (channels .exit)) (now (users .exit)) (now (tokens .exit))) links «user_ids» «user_links» «channel_ids» «channel_kinds» managers admitted joined «token_ids» «token_states» «token_values») (now (out .exit))
         ≡ after (domain-before (limited (now (channels .entry)) (now (users .entry)) (now (tokens .entry))) links «user_ids» «user_links» «channel_ids» «channel_kinds» managers admitted joined «token_ids» «token_states» «token_values») (hears p (understood (now (octets .entry)))) (now (out .entry)) ⌝ }
 {
-    let q = link_of(p);
     let limits = Limits {
         channels: *channels,
         users: *users,
@@ -184,7 +181,7 @@ pub fn message<'a>(
         token_ids,
         token_states,
         token_values,
-        q,
+        link_of(p),
         octets,
         out,
     );

@@ -18,7 +18,7 @@ cast-result : tie.Need-cast-result
 cast-result c = search needs
 
 returns : tie.Need-returns
-returns c = λ out. rw (c .reply-number .ensures) (c .before .«open» .ensures record { limits = _; links = 0; users = _; channels = _; tokens = _ } out ∙ opens-same _ out (c .before .before .before .link-of .ensures))
+returns c = λ out. rw (c .reply-number .ensures) (c .before .«open» .ensures record { limits = _; links = 0; users = _; channels = _; tokens = _ } out ∙ opens-same _ out (c .before .before .link-of .ensures))
 
 pub open-spec : {M : Type 1} → statement M
 open-spec = tie.close (tie.spec link-of-requires open-requires reply-number-requires cast-result returns)
