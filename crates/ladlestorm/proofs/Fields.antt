@@ -51,10 +51,10 @@ abbrev pub held : Domain → Held
 held = T.the-type .to
 
 abbrev pub made : Held → Domain
-made x = record { channels = x .0; users = x .1 .0; tokens = x .1 .1 .0; links = x .1 .1 .1 .0; user-ids = x .1 .1 .1 .1 .0; user-links = x .1 .1 .1 .1 .1 .0; channel-ids = x .1 .1 .1 .1 .1 .1 .0; channel-kinds = x .1 .1 .1 .1 .1 .1 .1 .0; managers = x .1 .1 .1 .1 .1 .1 .1 .1 .0; admitted = x .1 .1 .1 .1 .1 .1 .1 .1 .1 .0; joined = x .1 .1 .1 .1 .1 .1 .1 .1 .1 .1 .0; token-ids = x .1 .1 .1 .1 .1 .1 .1 .1 .1 .1 .1 .0; token-states = x .1 .1 .1 .1 .1 .1 .1 .1 .1 .1 .1 .1 .0; token-values = x .1 .1 .1 .1 .1 .1 .1 .1 .1 .1 .1 .1 .1 .0 }
+made x = record { channels = x .0; users = x .1 .0; tokens = x .1 .1 .0; links = x .1 .1 .1 .0; «user_ids» = x .1 .1 .1 .1 .0; «user_links» = x .1 .1 .1 .1 .1 .0; «channel_ids» = x .1 .1 .1 .1 .1 .1 .0; «channel_kinds» = x .1 .1 .1 .1 .1 .1 .1 .0; managers = x .1 .1 .1 .1 .1 .1 .1 .1 .0; admitted = x .1 .1 .1 .1 .1 .1 .1 .1 .1 .0; joined = x .1 .1 .1 .1 .1 .1 .1 .1 .1 .1 .0; «token_ids» = x .1 .1 .1 .1 .1 .1 .1 .1 .1 .1 .1 .0; «token_states» = x .1 .1 .1 .1 .1 .1 .1 .1 .1 .1 .1 .1 .0; «token_values» = x .1 .1 .1 .1 .1 .1 .1 .1 .1 .1 .1 .1 .1 .0 }
 
 pub made-held : (d : Domain) → made (held d) ≡ d
-made-held d = λ i. record { channels = d .channels; users = d .users; tokens = d .tokens; links = d .links; user-ids = map-id (d .user-ids) i; user-links = map-id (d .user-links) i; channel-ids = map-id (d .channel-ids) i; channel-kinds = map-id (d .channel-kinds) i; managers = map-id (d .managers) i; admitted = map-id (d .admitted) i; joined = map-id (d .joined) i; token-ids = map-id (d .token-ids) i; token-states = map-id (d .token-states) i; token-values = map-id (d .token-values) i }
+made-held d = λ i. record { channels = d .channels; users = d .users; tokens = d .tokens; links = d .links; «user_ids» = map-id (d .«user_ids») i; «user_links» = map-id (d .«user_links») i; «channel_ids» = map-id (d .«channel_ids») i; «channel_kinds» = map-id (d .«channel_kinds») i; managers = map-id (d .managers) i; admitted = map-id (d .admitted) i; joined = map-id (d .joined) i; «token_ids» = map-id (d .«token_ids») i; «token_states» = map-id (d .«token_states») i; «token_values» = map-id (d .«token_values») i }
 
 held-made : (x : Held) → held (made x) ≡ x
 held-made x = λ i. (x .0, (x .1 .0, (x .1 .1 .0, (x .1 .1 .1 .0, (map-id (x .1 .1 .1 .1 .0) i, (map-id (x .1 .1 .1 .1 .1 .0) i, (map-id (x .1 .1 .1 .1 .1 .1 .0) i, (map-id (x .1 .1 .1 .1 .1 .1 .1 .0) i, (map-id (x .1 .1 .1 .1 .1 .1 .1 .1 .0) i, (map-id (x .1 .1 .1 .1 .1 .1 .1 .1 .1 .0) i, (map-id (x .1 .1 .1 .1 .1 .1 .1 .1 .1 .1 .0) i, (map-id (x .1 .1 .1 .1 .1 .1 .1 .1 .1 .1 .1 .0) i, (map-id (x .1 .1 .1 .1 .1 .1 .1 .1 .1 .1 .1 .1 .0) i, (map-id (x .1 .1 .1 .1 .1 .1 .1 .1 .1 .1 .1 .1 .1 .0) i, tt))))))))))))))

@@ -42,32 +42,32 @@ tokens-back (m ∷ ms) (v ∷ vs) a = ap {B = List ℕ × List ℕ} (λ (t : Lis
 
 -- each column has a value for each place of its table
 pub record Whole (d : Domain) : Type 0 where
-  pub managers : length (d .managers) ≡ length (d .channel-kinds)
-  pub admitted : length (d .admitted) ≡ length (d .channel-kinds)
-  pub joined : length (d .joined) ≡ length (d .channel-kinds)
-  pub token-values : length (d .token-values) ≡ length (d .token-states)
+  pub managers : length (d .managers) ≡ length (d .«channel_kinds»)
+  pub admitted : length (d .admitted) ≡ length (d .«channel_kinds»)
+  pub joined : length (d .joined) ≡ length (d .«channel_kinds»)
+  pub «token_values» : length (d .«token_values») ≡ length (d .«token_states»)
 
 pub one-struct : (d e : Domain) → Whole d → Whole e → domain-in d ≡ domain-in e → d ≡ e
 one-struct d e w v q =
-    let cs : _≡_ {A = Four} (d .channel-kinds, (d .managers, (d .admitted, d .joined))) (e .channel-kinds, (e .managers, (e .admitted, e .joined))) =
-    sym (channels-back (d .channel-kinds) (d .managers) (d .admitted) (d .joined) (w .managers) (w .admitted) (w .joined)) ∙ ap {B = Four} (λ (t : Tables). channel-columns (t .channels .cells)) q ∙ channels-back (e .channel-kinds) (e .managers) (e .admitted) (e .joined) (v .managers) (v .admitted) (v .joined) in
-    let ts : _≡_ {A = List ℕ × List ℕ} (d .token-states, d .token-values) (e .token-states, e .token-values) =
-    sym (tokens-back (d .token-states) (d .token-values) (w .token-values)) ∙ ap {B = List ℕ × List ℕ} (λ (t : Tables). token-columns (t .tokens .cells)) q ∙ tokens-back (e .token-states) (e .token-values) (v .token-values) in
+    let cs : _≡_ {A = Four} (d .«channel_kinds», (d .managers, (d .admitted, d .joined))) (e .«channel_kinds», (e .managers, (e .admitted, e .joined))) =
+    sym (channels-back (d .«channel_kinds») (d .managers) (d .admitted) (d .joined) (w .managers) (w .admitted) (w .joined)) ∙ ap {B = Four} (λ (t : Tables). channel-columns (t .channels .cells)) q ∙ channels-back (e .«channel_kinds») (e .managers) (e .admitted) (e .joined) (v .managers) (v .admitted) (v .joined) in
+    let ts : _≡_ {A = List ℕ × List ℕ} (d .«token_states», d .«token_values») (e .«token_states», e .«token_values») =
+    sym (tokens-back (d .«token_states») (d .«token_values») (w .«token_values»)) ∙ ap {B = List ℕ × List ℕ} (λ (t : Tables). token-columns (t .tokens .cells)) q ∙ tokens-back (e .«token_states») (e .«token_values») (v .«token_values») in
     λ i. record {
       channels = q i .limits .channels;
       users = q i .limits .users;
       tokens = q i .limits .tokens;
       links = q i .links;
-      user-ids = q i .users .ids;
-      user-links = q i .users .at;
-      channel-ids = q i .channels .ids;
-      channel-kinds = cs i .0;
+      «user_ids» = q i .users .ids;
+      «user_links» = q i .users .at;
+      «channel_ids» = q i .channels .ids;
+      «channel_kinds» = cs i .0;
       managers = cs i .1 .0;
       admitted = cs i .1 .1 .0;
       joined = cs i .1 .1 .1;
-      token-ids = q i .tokens .ids;
-      token-states = ts i .0;
-      token-values = ts i .1;
+      «token_ids» = q i .tokens .ids;
+      «token_states» = ts i .0;
+      «token_values» = ts i .1;
     }
 
 -- an event, and a start

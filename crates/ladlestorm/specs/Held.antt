@@ -4,4 +4,4 @@ use Rattle.domain.specs.Outcomes.{limited}
 use Rattle.ladlestorm.specs.declared.Domain.{Domain as Held}
 
 abbrev pub domain-in : Held → Domain
-domain-in d = domain-of (limited (d .channels) (d .users) (d .tokens)) (d .links) (d .user-ids) (d .user-links) (d .channel-ids) (d .channel-kinds) (d .managers) (d .admitted) (d .joined) (d .token-ids) (d .token-states) (d .token-values)
+domain-in d = domain-of (limited (d .channels) (d .users) (d .tokens)) (d .links) (d .«user_ids») (d .«user_links») (d .«channel_ids») (d .«channel_kinds») (d .managers) (d .admitted) (d .joined) (d .«token_ids») (d .«token_states») (d .«token_values»)
