@@ -79,7 +79,8 @@ fn put_confirm(number: u32, values: &[u32], ids: &[u16], octets: &[u8], out: &mu
     out[6] = (values[3] * 32) as u8;
 }
 
-// A confirm at the start of the room, in its 7 octets, where its fields are in range and there is room; else the room is untouched. Whether it is written.
+// A confirm at the start of the room, in its 7 octets; or nothing, and the room is untouched. Whether it is written. What is written has its fields in
+// range; that it is written where they are is not promised.
 pub fn encode_short(number: u32, values: &[u32], ids: &[u16], octets: &[u8], out: &mut [u8]) -> bool
     ensures { λ r. ⌜ (r ≡ true → Encodes (given number (now (values .entry)) (now (ids .entry)) (now (octets .entry))) (now (out .entry)) (Wrote.Upto 7) (now (out .exit)))
         × (r ≡ false → now (out .exit) ≡ now (out .entry)) ⌝ }

@@ -10,7 +10,7 @@ use Rattle.history.specs.Recorded.{read-call, size, is-record, inside, c
 use Rattle.history.specs.Served.{event, tables, notes, served, serves, started}
 use Rattle.history.specs.Example.{attaching, grabbing, room, turns, end, held-notes, all-notes}
 
--- the octets sent are those of document 01
+-- the octets sent are those of the example
 pub as-noted : notes end ≡ all-notes
 unfolding opened number-in read-as understood step-settled after begun event tables notes served serves started attaching grabbing room turns end held-notes all-notes
 as-noted = refl

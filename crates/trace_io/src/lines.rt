@@ -78,7 +78,7 @@ pub fn collect(out: &mut [u8], filled: usize, text: &[u8]) -> usize
     0
 }
 
-// Collects a text; what is put by many calls is promised as the list of the texts.
+// Collects a text; what many calls put into the buffer is promised as the list of the texts. A flush is not promised.
 pub fn say(out: &mut [u8], filled: usize, text: &[u8]) -> usize
     ensures { λ r. ⌜ Says (now (out .entry)) filled (now (text .entry) ∷ []) (now (out .exit)) r ⌝ }
 {
