@@ -17,9 +17,12 @@ else
     there "$emulate" || skip "no $emulate, and the archives are x86-64"
 fi
 
-# The compilers that are here, of C and of C++.
-compilers=""
-for compiler in $known; do if there "$compiler"; then compilers="$compilers $compiler"; fi; done
+# The compilers of C and of C++ that are here, and those that are not.
+compilers="" missing=""
+for compiler in $known; do if there "$compiler"; then compilers="$compilers $compiler"; else missing="$missing $compiler"; fi; done
+
+# The last line of a script that tries them all.
+tried() { echo "tried with$compilers${missing:+; not here:$missing}"; }
 
 # The first of them for C.
 one=""
