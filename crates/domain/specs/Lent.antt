@@ -5,7 +5,8 @@ use mathlib.Core.List.{List}
 use denote.Ref.{RefT, now}
 use denote.Triple.Both.{Both}
 use Rattle.domain.specs.declared.Limits.{Limits}
-use Rattle.domain.specs.Tables.{Domain, Users, Channels, Tokens, domain-of, users-of, channels-of, tokens-of}
+use Rattle.domain.specs.declared.channel.Channel.{Channel}
+use Rattle.domain.specs.Tables.{Domain, Users, Channels, Tokens, domain-of, users-of, channel-cells, channels-of, tokens-of}
 
 -- a column that is lent: X is what is left of it when the function ends
 abbrev pub Lent : Type 0 → Type 0
@@ -23,7 +24,13 @@ users-before ids links = users-of (now (ids .entry)) (now (links .entry))
 abbrev pub users-after : Column → Column → Users
 users-after ids links = users-of (now (ids .exit)) (now (links .exit))
 
--- ---- channels; `with` these ids, where their column is not lent or does not change
+-- ---- channels: what stands at each place; `with` these ids, where their column is not lent or does not change
+
+abbrev pub cells-before : {A B C D : Type 0} → Lent A → Lent B → Lent C → Lent D → List Channel
+cells-before kinds managers admitted joined = channel-cells (now (kinds .entry)) (now (managers .entry)) (now (admitted .entry)) (now (joined .entry))
+
+abbrev pub cells-after : (kinds managers admitted joined : Column) → List Channel
+cells-after kinds managers admitted joined = channel-cells (now (kinds .exit)) (now (managers .exit)) (now (admitted .exit)) (now (joined .exit))
 
 abbrev pub channels-before-with : {A B C D : Type 0} → List ℕ → Lent A → Lent B → Lent C → Lent D → Channels
 channels-before-with ids kinds managers admitted joined = channels-of ids (now (kinds .entry)) (now (managers .entry)) (now (admitted .entry)) (now (joined .entry))

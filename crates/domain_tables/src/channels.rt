@@ -2,8 +2,8 @@
 ghost use mathlib.Core.Path.{_≡_};
 ghost use lib.ListN.{getD, set};
 ghost use Rattle.domain.specs.Cells.{no-channel};
-ghost use Rattle.domain.specs.Tables.{channel-cells, add-channel, end-channel};
-ghost use Rattle.domain.specs.Lent.{channels-after, channels-before};
+ghost use Rattle.domain.specs.Tables.{add-channel, end-channel};
+ghost use Rattle.domain.specs.Lent.{cells-after, cells-before, channels-after, channels-before};
 use domain::channel::Channel;
 
 // What stands at place j; a blank where there is no such place.
@@ -14,7 +14,7 @@ pub fn channel_at(
     joined: &[u16; 128],
     j: usize,
 ) -> Channel
-    ensures { λ r. ⌜ r ≡ getD (channel-cells (now («channel_kinds» .entry)) (now (managers .entry)) (now (admitted .entry)) (now (joined .entry))) j no-channel ⌝ }
+    ensures { λ r. ⌜ r ≡ getD (cells-before «channel_kinds» managers admitted joined) j no-channel ⌝ }
 {
     let rs = &channel_kinds[..];
     let cs = &managers[..];
@@ -45,8 +45,8 @@ pub fn set_channel(
     j: usize,
     ch: Channel,
 )
-    ensures { λ _. ⌜ channel-cells (now («channel_kinds» .exit)) (now (managers .exit)) (now (admitted .exit)) (now (joined .exit))
-        ≡ set (channel-cells (now («channel_kinds» .entry)) (now (managers .entry)) (now (admitted .entry)) (now (joined .entry))) j ch ⌝ }
+    ensures { λ _. ⌜ cells-after «channel_kinds» managers admitted joined
+        ≡ set (cells-before «channel_kinds» managers admitted joined) j ch ⌝ }
 {
     if j < channel_kinds[..].len() {
         channel_kinds[j] = ch.role;

@@ -11,8 +11,8 @@ ghost use Rattle.cols_spec.specs.Sets.{any, only, connections as allLinks};
 ghost use Rattle.cols_spec.specs.Swept.{Turns, anywhere};
 ghost use Rattle.out_records.specs.Records.{to};
 ghost use Rattle.domain.specs.Cells.{no-channel, kind, channel-of};
-ghost use Rattle.domain.specs.Tables.{Users, Channels, channel-cells, channel, add-channel, sweep-channels, lapses, at-limit, grant};
-ghost use Rattle.domain.specs.Lent.{channels-after, channels-after-with, channels-before, channels-before-with, users-after, users-before};
+ghost use Rattle.domain.specs.Tables.{Users, Channels, channel, add-channel, sweep-channels, lapses, at-limit, grant};
+ghost use Rattle.domain.specs.Lent.{cells-after, cells-before, channels-after, channels-after-with, channels-before, channels-before-with, users-after, users-before};
 ghost use Rattle.domain.specs.Effects.{done, settle, answered};
 ghost use Rattle.domain.specs.Channels.{attach as attachOf, join as joinOf, join-at, join-new, may, joined as joinedIn, left, leave-channels as leaveOf};
 use domain::answer::Answer;
@@ -308,8 +308,8 @@ fn leave_at(
 )
     requires { ⌜ j < 128 ⌝ }
     ensures { λ _. ⌜ Turns no-channel (anywhere (left p (now (listed .entry)))) j
-        (now («channel_ids» .entry)) (channel-cells (now («channel_kinds» .entry)) (now (managers .entry)) (now (admitted .entry)) (now (joined .entry)))
-        (now («channel_ids» .exit)) (channel-cells (now («channel_kinds» .exit)) (now (managers .exit)) (now (admitted .exit)) (now (joined .exit))) ⌝ }
+        (now («channel_ids» .entry)) (cells-before «channel_kinds» managers admitted joined)
+        (now («channel_ids» .exit)) (cells-after «channel_kinds» managers admitted joined) ⌝ }
 {
     let c = channel_ids[j];
     if c == 0 {
@@ -347,7 +347,7 @@ fn width(
     admitted: &[u64; 128],
     joined: &[u16; 128],
 ) -> usize
-    ensures { λ r. ⌜ (r ≡ 128) × (length (now («channel_ids» .entry)) ≡ 128) × (length (channel-cells (now («channel_kinds» .entry)) (now (managers .entry)) (now (admitted .entry)) (now (joined .entry))) ≡ 128) ⌝ }
+    ensures { λ r. ⌜ (r ≡ 128) × (length (now («channel_ids» .entry)) ≡ 128) × (length (cells-before «channel_kinds» managers admitted joined) ≡ 128) ⌝ }
 {
     let a = &channel_ids[..];
     let b = &channel_kinds[..];

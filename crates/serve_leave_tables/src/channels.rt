@@ -5,8 +5,8 @@ ghost use lib.ListN.{getD, set};
 ghost use Rattle.cols_spec.specs.Sets.{member, ids-above, with, meet, connections, seats};
 ghost use Rattle.cols_spec.specs.Swept.{Turns, anywhere};
 ghost use Rattle.domain.specs.Cells.{no-channel};
-ghost use Rattle.domain.specs.Tables.{hosts, channel-cells, sweep-channels};
-ghost use Rattle.domain.specs.Lent.{channels-after, channels-before, users-before};
+ghost use Rattle.domain.specs.Tables.{hosts, sweep-channels};
+ghost use Rattle.domain.specs.Lent.{cells-after, cells-before, channels-after, channels-before, users-before};
 ghost use Rattle.serve_leave_tables.specs.Fates.{fate-by, ends-by, guests-left, marks-left};
 
 // Channel c is the user's id of one of those listed. Most ids are among the 64 that have a mark; another is looked for only where the channel
@@ -90,8 +90,8 @@ fn leave_place(
 )
     requires { ⌜ (j < 128) × (low ≡ ids-above 1000 (now list)) ⌝ }
     ensures { λ _. ⌜ Turns no-channel (anywhere (fate-by (users-before «user_ids» «user_links») (now (list .entry)) gone live)) j
-        (now («channel_ids» .entry)) (channel-cells (now («channel_kinds» .entry)) (now (managers .entry)) (now (admitted .entry)) (now (joined .entry)))
-        (now («channel_ids» .exit)) (channel-cells (now («channel_kinds» .exit)) (now (managers .exit)) (now (admitted .exit)) (now (joined .exit))) ⌝ }
+        (now («channel_ids» .entry)) (cells-before «channel_kinds» managers admitted joined)
+        (now («channel_ids» .exit)) (cells-after «channel_kinds» managers admitted joined) ⌝ }
 {
     // How long the columns are: a cell is read where all are long enough.
     let n1 = channel_kinds[..].len();
