@@ -1,0 +1,11 @@
+use borrow.Author.Rules.{rules}
+use native.Mathlib.Omega.{arith}
+use Prim.Native.Nat.{◌-◌}
+use Rattle.codec_octets.proofs.Numbers.{Sofar, sofar_none, sofar_fits, sofar_more, fewest_short, fewest_more, fewest_is}
+use Rattle.codec_octets.proofs.fewest_octets.Given as goal
+
+abbrev pub invariant-loop-j : goal.invariant-loop-j
+invariant-loop-j l = Sofar l.s l.i l.k l.v l.j
+
+abbrev pub decreases-loop-j : goal.decreases-loop-j
+decreases-loop-j l = l.k - l.j

@@ -1,0 +1,6 @@
+use borrow.Author.Rules.{rules}
+use Rattle.codec_table.proofs.ColumnLaws.{covered_at}
+use Rattle.codec_table.proofs.covered.Goals as goal
+
+pub returns : goal.returns
+returns c = covered_at _ _ c.way_of.ensures

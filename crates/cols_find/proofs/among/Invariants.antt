@@ -1,0 +1,11 @@
+-- The loop looks at one place after the other.
+use Prim.Native.Nat.{◌-◌}
+use borrow.Author.Rules.{rules}
+use Rattle.cols_find.proofs.Looked.{Looked, looked_at_none, looked_at_next, looked_at_all}
+use Rattle.cols_find.proofs.among.Given as goal
+
+abbrev pub invariant-loop-k : goal.invariant-loop-k
+invariant-loop-k l = Looked l.ids l.from l.x 64 l.k l.most
+
+abbrev pub decreases-loop-k : goal.decreases-loop-k
+decreases-loop-k l = 64 - l.k

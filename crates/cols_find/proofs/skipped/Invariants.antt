@@ -1,0 +1,14 @@
+-- The loop goes up, 64 places at a time: x does not stand before i.
+use Prim.Native.Nat.{◌≤◌, ◌-◌}
+use mathlib.Core.Path.{◌≡◌, refl, ◌∙◌}
+use native.Mathlib.Omega.{arith}
+use lib.ListN.{length, drop}
+use borrow.Author.Rules.{rules}
+use Rattle.cols_spec.specs.Places.{first}
+use Rattle.cols_find.proofs.skipped.Given as goal
+
+abbrev pub invariant-loop-i : goal.invariant-loop-i
+invariant-loop-i l = (l.i ≤ length l.ids) × (first 0 l.x l.ids ≡ first l.i l.x (drop l.i l.ids))
+
+abbrev pub decreases-loop-i : goal.decreases-loop-i
+decreases-loop-i l = length l.ids - l.i

@@ -1,0 +1,16 @@
+-- The places passed are counted.
+use Prim.Native.Nat.{ℕ, ◌+◌, ◌≤◌, ◌-◌}
+use mathlib.Core.Path.{ap₂, ◌≡◌, refl, sym, ◌∙◌}
+use native.Mathlib.Omega.{arith}
+use lib.ListN.{length, take, length-take, length-drop}
+use borrow.Author.Rules.{rules}
+use Rattle.cols_spec.specs.Sets.{keep}
+use Rattle.cols_spec.specs.Places.{used}
+use Rattle.cols_spec.proofs.Turns.{used_part, part_within, used_end}
+use Rattle.cols_find.proofs.used.Given as goal
+
+abbrev pub invariant-loop-i : goal.invariant-loop-i
+invariant-loop-i l = (l.i ≤ length l.ids) × (l.n ≤ l.i) × (l.n ≡ used (take l.i l.ids))
+
+abbrev pub decreases-loop-i : goal.decreases-loop-i
+decreases-loop-i l = length l.ids - l.i

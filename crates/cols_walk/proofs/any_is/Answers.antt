@@ -1,0 +1,25 @@
+-- No cell passed is k.
+use Prim.Native.Nat.{ℕ, ◌-◌, ◌≤◌, ◌<◌}
+use mathlib.Core.Path.{◌≡◌}
+use mathlib.Core.Bool.{false}
+use native.Mathlib.Omega.{arith}
+use lib.Dec.{eqb}
+use lib.ListN.{length, get_or}
+use borrow.Author.Count.{below_more}
+use borrow.Author.Tests.{eqb-false}
+use borrow.Author.Rules.{rules}
+use Rattle.cols_spec.proofs.Bools.{or_parts}
+use Rattle.cols_walk.proofs.any_is.Goals as goal
+
+pub loop-i-init : goal.loop-i-init
+loop-i-init c = (search rules, λ e j h. absurd (omega arith))
+
+pub loop-i-preserved : goal.loop-i-preserved
+loop-i-preserved c =
+    let b = c.loop-i in
+    let a = c.args in
+    let here = eqb (get_or a.cells.now b.i 0) a.k in
+    (search rules, λ e. below_more (λ (j : ℕ). get_or a.cells.now j 0 ≡ a.k → ⊥) b.i (b.invariant.1 (or_parts b.any here e).0) (eqb-false _ _ (or_parts b.any here e).1))
+
+pub returns : goal.returns
+returns c = λ e j h. c.loop-i.invariant.1 e j (omega arith)

@@ -1,0 +1,14 @@
+-- The loop goes up, sixteen cells at a time: none before i is k.
+use Prim.Native.Nat.{◌≤◌, ◌-◌}
+use mathlib.Core.Path.{◌≡◌, refl, ◌∙◌}
+use native.Mathlib.Omega.{arith}
+use lib.ListN.{length, drop}
+use borrow.Author.Rules.{rules}
+use Rattle.cols_spec.specs.Places.{first}
+use Rattle.cols_walk.proofs.past_cells.Given as goal
+
+abbrev pub invariant-loop-i : goal.invariant-loop-i
+invariant-loop-i l = (l.i ≤ length l.cells) × (first l.from l.k (drop l.from l.cells) ≡ first l.i l.k (drop l.i l.cells))
+
+abbrev pub decreases-loop-i : goal.decreases-loop-i
+decreases-loop-i l = length l.cells - l.i
