@@ -1,7 +1,7 @@
 -- What is claimed of every trace; proofs/Laws has the proofs.
 use Rattle.std.specs.Prelude.{ℕ, ◌+◌, ◌-◌, ◌/◌, ◌%◌, ◌<◌, ◌≤◌, ◌≡◌, ◌↔◌, ◌≢◌, List, [], ◌∷◌, ◌++◌, length, get_or, take, drop}
 use Rattle.trace_frames.specs.declared.Frame.{Frame}
-use Rattle.trace_frames.specs.Frames.{Front, over, frame, refused, front, meaning, length_of, size_of, version_of, kind_of}
+use Rattle.trace_frames.specs.Frames.{frame, refused, front, meaning, length_of, size_of, version_of, kind_of}
 
 -- a rule of document 01 that the front of s breaks
 pub data Breaks (s : List ℕ) : Type 0 where

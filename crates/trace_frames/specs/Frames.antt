@@ -1,5 +1,5 @@
 -- What stands at the front of a trace: document 01, "The trace program".
-use Rattle.std.specs.Prelude.{ℕ, ◌+◌, ◌*◌, Bool, ◌&&◌, ◌||◌, cond, List, leb, eqb, length, get_or}
+use Rattle.std.specs.Prelude.{ℕ, ◌+◌, ◌*◌, ◌&&◌, ◌||◌, cond, List, leb, eqb, length, get_or}
 use Rattle.trace_frames.specs.declared.Kind.{Kind}
 use Rattle.trace_frames.specs.declared.Kind.TheVariants.{Open, Loss, Message}
 use Rattle.trace_frames.specs.declared.Frame.{Frame}

@@ -1,4 +1,6 @@
 // Trace frames: 2 octets of length, version, kind, connection, octets.
+#![tactic(auto)]
+
 ghost use Rattle.std.specs.Prelude.{◌≡◌, ◌+◌, ◌*◌, length, leb};
 ghost use Rattle.trace_frames.specs.Frames.{meaning, front, frame, of_kind, kind_number, size_of};
 ghost use Rattle.trace_frames.specs.Good.{size_in, good_size};
