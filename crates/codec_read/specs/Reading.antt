@@ -3,7 +3,7 @@ use Rattle.std.specs.Prelude.{◌≡◌, Bool, true, false, cond, List, [], ℕ,
 use Rattle.codec_table.specs.Limits.{list_limit}
 use Rattle.codec_octets.specs.Octets.{Read, got, no, Reader, follow, give, need, read_items, Tail, nothing, list}
 use Rattle.codec_table.specs.Messages.{Field, row}
-use Rattle.codec_table.specs.Codec.{left_after, take_field, take_fields, take_body, take_row, Msg, Outcome, ok, refuse, ending, decode}
+use Rattle.codec_table.specs.Codec.{left_after, take_field, take_fields, take_body, take_row, Msg, Outcome, refuse, ending, decode}
 use Rattle.codec_read.specs.declared.Fields.{Fields}
 use Rattle.codec_read.specs.declared.Items.{Items}
 use Rattle.codec_read.specs.Held.{padded}

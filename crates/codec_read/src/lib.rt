@@ -1,4 +1,6 @@
 // The reader: the message of some octets, or a refusal; and a field at any bit of any octets.
+#![tactic(auto)]
+
 ghost use Rattle.std.specs.Prelude.{◌≡◌, ℕ, ◌+◌, ◌*◌, ◌-◌, ◌<◌, ◌≤◌, true, false, List, eqb, length, drop};
 ghost use Rattle.codec_octets.specs.Octets.{an_id, a_number, an_octet, read_items, read_tail};
 ghost use Rattle.codec_table.specs.Limits.{list_limit, message_limit};
