@@ -1,18 +1,17 @@
 -- The octets of each message that a top provider sends, written out. Assumes nothing.
 use mathlib.Core.Path.{◌≡◌, refl, sym, ap, ap₂, ◌∙◌}
-use mathlib.Core.Bool.{Bool, true, false}
-use mathlib.Core.Option.{Option, none, some}
-use mathlib.Core.List.{List, [], ◌∷◌, ◌++◌, append-nil}
+use mathlib.Core.Option.{none, some}
+use mathlib.Core.List.{List, [], ◌∷◌, ◌++◌}
 use Prim.Native.Nat.{ℕ, zero, suc, ◌+◌, ◌-◌, ◌*◌, ◌/◌, ◌%◌, ◌≤◌, ◌<◌, min}
 use native.Mathlib.Nat.{div-one, sub-zero, min-zero, zero-min, suc-min-suc, min-le_left}
 use native.Mathlib.Omega.{arith}
 use borrow.Author.Tests.{lt-ltb, le-leb, lt-leb}
 use lib.ListN.{length, take, length-take}
-use Rattle.codec_octets.specs.Octets.{an_id, an_octet, octets_of, write_items, length_octets}
-use Rattle.codec_table.specs.Messages.{Row, entry, row}
+use Rattle.codec_octets.specs.Octets.{an_id, an_octet, octets_of, write_items}
+use Rattle.codec_table.specs.Messages.{entry, row}
 use Rattle.codec_table.specs.Limits.{list_limit}
 use Rattle.codec_table.specs.Codec.{octets_of_msg}
-use Rattle.codec_table.specs.Named.{Message, fields, msg, maybe, RJum, AUcf, DUin, CJcf, CCcf, CDin, CAin, CEin, TTcf, TVin, TPin}
+use Rattle.codec_table.specs.Named.{fields, RJum, AUcf, DUin, CJcf, CCcf, CDin, CAin, CEin, TTcf, TVin, TPin}
 use Rattle.out_records.specs.Records.{two, wire, record_of}
 use Rattle.out_records.specs.Out.{Puts, each_two, listing}
 use Rattle.out_records.proofs.Laying.{put_none, ids_length}

@@ -1,4 +1,6 @@
 // Records into an answer's room. A put counts always and writes where there is room: so a run over a room of no octets tells the size.
+#![tactic(auto)]
+
 pub mod lists;
 
 ghost use Rattle.std.specs.Prelude.{◌≡◌, ℕ, ◌+◌, ◌-◌, ◌≤◌, ◌<◌, min, length, set};
