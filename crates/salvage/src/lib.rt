@@ -1,4 +1,6 @@
 // Salvages a torn trace: the good frames are kept, and what stands between them is cut out and listed.
+#![tactic(auto)]
+
 ghost use Rattle.std.specs.Prelude.{◌≡◌, ◌+◌, ◌*◌, ◌≤◌, ◌<◌, length, drop};
 ghost use Rattle.std.proofs.lemmas.List.Edits.{sets};
 ghost use Rattle.codec_octets.specs.Octets.{octets_of};

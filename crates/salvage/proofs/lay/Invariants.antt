@@ -1,0 +1,12 @@
+-- `salvage::lay` meets its contract. The loop's invariant: what is left to lay from here is all of it from the start. Assumes nothing.
+use Prim.Native.Nat.{◌+◌, ◌-◌, ◌≤◌}
+use mathlib.Core.Path.{◌≡◌}
+use lib.ListN.{length, drop}
+use lib.Seq.{sets}
+use Rattle.salvage.proofs.lay.Given as goal
+
+abbrev pub invariant-loop-i : goal.invariant-loop-i
+invariant-loop-i l = (l.i ≤ length l.os) × (length l.room ≡ length l.initial.room) × (sets l.room (l.at + l.i) (drop l.i l.os) ≡ sets l.initial.room l.at l.os)
+
+abbrev pub decreases-loop-i : goal.decreases-loop-i
+decreases-loop-i l = length l.os - l.i
