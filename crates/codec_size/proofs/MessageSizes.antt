@@ -4,7 +4,7 @@ use mathlib.Core.Bool.{Bool, true, false, cond, ◌&&◌}
 use mathlib.Core.List.{List, [], ◌∷◌, ◌++◌}
 use Prim.Native.Nat.{ℕ, zero, suc, ◌+◌, ◌-◌, ◌/◌, ◌^◌, ◌<◌, ◌≤◌}
 use native.Mathlib.Omega.{arith}
-use lib.ListN.{length, take, length-append}
+use lib.ListN.{length, length-append}
 use lib.Dec.{leb, ltb, eqb}
 use borrow.Author.Tests.{eq-eqb, ne_eqb, lt-ltb, le-ltb, ltb-true, ltb-false, le-leb, lt-leb, leb-true, leb-false}
 use Rattle.codec_table.specs.Limits.{message_limit}
@@ -176,6 +176,7 @@ module _ (n : ℕ) (vs items : List ℕ) where
       go : (f : ℕ) → form_at n ≡ f → Form f → count_at n + f ≤ 4
       go zero e w = omega (arith, count_few n)
       go (suc zero) e w = count_one_more n e
+      go (suc (suc _)) e w = elim w [ ]
 
   module _ (l : form_at n ≤ 1) where
     plain_row : form_at n ≡ 0 → row n ≡ plain (fields_of n (count_at n)) (tail_of (tail_at n))
@@ -214,6 +215,7 @@ module _ (n : ℕ) (vs items : List ℕ) where
         go (suc zero) z w =
             encode_optional z false (le-ltb (count_at n) (length vs) (omega arith))
             ∙ said_misfit _ _ _ (fields_of n (count_at n)) _ vs items (λ e. omega (arith, size_of))
+        go (suc (suc _)) z w = elim w [ ]
 
     pub too_many : count_at n + form_at n < length vs → encode msg ≡ refuse 8
     too_many k = go (form_at n) refl (form_is (form_at n) l)
@@ -224,6 +226,7 @@ module _ (n : ℕ) (vs items : List ℕ) where
             encode_optional z true (lt-ltb (count_at n) (length vs) (omega arith))
             ∙ said_misfit _ _ _ (fields_of n (count_at n) ++ last_field n ∷ []) _ vs items
             (λ e. omega (arith, size_of, length-append (fields_of n (count_at n)) (last_field n ∷ [])))
+        go (suc (suc _)) z w = elim w [ ]
 
     module _ (least : count_at n ≤ length vs) (most : length vs ≤ count_at n + form_at n) where
       pub encode_said : encode msg ≡ said n (form_at n) (ltb (count_at n) (length vs)) (fields_of n (length vs)) (tail_of (tail_at n)) vs items
@@ -252,6 +255,7 @@ module _ (n : ℕ) (vs items : List ℕ) where
                   ∙ ap (λ fs. said n 1 false fs (tail_of (tail_at n)) vs items) (ap (λ k. fields_of n k) c)
                   ∙ ap (λ f. said n f false (fields_of n (length vs)) (tail_of (tail_at n)) vs items) (sym z)
                   ∙ ap (λ p. said n (form_at n) p (fields_of n (length vs)) (tail_of (tail_at n)) vs items) (sym e)
+          go (suc (suc _)) z w = elim w [ ]
 
       pub size_is : extent (encode msg) ≡ body_upto (6 + form_at n) (fields_of n (length vs)) (tail_of (tail_at n)) vs items
       unfolding said body_upto

@@ -1,4 +1,6 @@
 // What a message takes: its fields and what follows them judged and measured, before anything is written.
+#![tactic(auto)]
+
 ghost use Rattle.std.specs.Prelude.{◌≡◌, ◌+◌, ◌≤◌, ◌<◌, length, get_or};
 ghost use Rattle.codec_octets.specs.Octets.{an_id, a_number, length_octets, fits_item};
 ghost use Rattle.codec_table.specs.Messages.{code, item};
