@@ -1,17 +1,16 @@
 -- Any event that answers with records: refused with 9 and nothing touched, or done with the records in front of what stood there. Assumes nothing.
-use mathlib.Core.Path.{◌≡◌, refl, ap, ◌∙◌}
-use mathlib.Core.List.{List, [], ◌∷◌, ◌++◌}
+use mathlib.Core.Path.{◌≡◌, refl}
+use mathlib.Core.List.{List, []}
 use Prim.Native.Nat.{ℕ, ◌+◌, ◌≤◌, ◌<◌}
 use native.Mathlib.Nat.{zero-add}
 use native.Mathlib.Omega.{arith}
 use borrow.Author.Tests.{lt-ltb, le-ltb}
-use lib.ListN.{length, drop}
-use lib.Seq.{length-sets}
+use lib.ListN.{length}
 use Rattle.out_records.specs.Records.{Sent, records}
 use Rattle.out_records.specs.Out.{Puts}
 use Rattle.out_records.proofs.Laying.{put_fits}
 use Rattle.out_records.proofs.Telling.{records_none}
-use Rattle.domain.specs.Effects.{Effect, ignored, done, Settled, settled, delivers, settle}
+use Rattle.domain.specs.Effects.{ignored, done, settled, delivers, settle}
 
 -- `k` is the place behind the records, as a run over a room of no octets tells it
 module _ {A : Type 0} (n : ℕ) (before after : A) (rs : List Sent) (out : List ℕ) (k : ℕ) (size : k ≡ 0 + length (records rs)) where

@@ -7,9 +7,9 @@ use lib.Dec.{ltb}
 use lib.ListN.{length, drop}
 use Rattle.cols_spec.specs.Sets.{if◌then◌else◌}
 use Rattle.codec_table.specs.Named.{Message}
-use Rattle.out_records.specs.Records.{Sent, records}
+use Rattle.out_records.specs.Records.{records}
 use Rattle.domain.specs.declared.Limits.{Limits}
-use Rattle.domain.specs.Tables.{Users, Channels, Tokens, Domain, put_channels, put_tokens, put_both, grant}
+use Rattle.domain.specs.Tables.{Users, Channels, Tokens, Domain, put_channels, put_tokens, put_both}
 use Rattle.domain.specs.Effects.{Effect, ignored, done, within, Settled, settled, delivers, settle}
 use Rattle.domain.specs.Events.{act}
 use Rattle.domain.specs.Assembled.{assembled}

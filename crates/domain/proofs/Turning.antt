@@ -2,18 +2,17 @@
 -- Assumes nothing.
 use mathlib.Core.Path.{◌≡◌, refl, sym, ap, ◌∙◌}
 use mathlib.Core.Bool.{Bool, true, false, not, ◌||◌}
-use mathlib.Core.List.{List, [], ◌∷◌, ◌++◌}
+use mathlib.Core.List.{List, ◌++◌}
 use Prim.Native.Nat.{ℕ, ◌≤◌, ◌<◌}
-use native.Mathlib.Omega.{arith}
 use borrow.Author.Tests.{lt-ltb, le-ltb}
-use lib.Dec.{eqb, ltb}
+use lib.Dec.{ltb}
 use lib.ListN.{length, drop}
 use Rattle.cols_spec.specs.Sets.{if◌then◌else◌, has, with, connections}
 use Rattle.out_records.specs.Records.{Sent, records}
 use Rattle.domain.specs.Tables.{Domain, put_links, grant}
-use Rattle.domain.specs.Effects.{Effect, ignored, done, Settled, settled, delivers, settle}
+use Rattle.domain.specs.Effects.{Effect, ignored, done, settled, delivers, settle}
 use Rattle.domain.specs.Leaving.{close}
-use Rattle.domain.specs.Events.{Reading, opens, loses, hears, stays, sends as sends_of, ends, complaint, answers, step_with, step, Outcome}
+use Rattle.domain.specs.Events.{Reading, opens, loses, hears, stays, sends as sends_of, ends, answers, step_with, step, Outcome}
 use Rattle.domain.specs.Outcomes.{step_settled, after}
 
 pub not_not : (b : Bool) → b ≡ not (not b)

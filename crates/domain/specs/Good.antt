@@ -1,9 +1,8 @@
 -- What holds of the tables between events. Each rule is a test that computes; `Good d` is that every test passes.
-use Rattle.std.specs.Prelude.{ℕ, ◌+◌, ◌^◌, Bool, true, false, not, ◌&&◌, ◌||◌, List, [], ◌∷◌, eqb, leb, ltb, length}
+use Rattle.std.specs.Prelude.{ℕ, ◌^◌, Bool, true, false, not, ◌&&◌, ◌||◌, eqb, leb, ltb, length}
 use Rattle.std.proofs.Math.Bool.{So}
-use Rattle.cols_spec.specs.Sets.{if◌then◌else◌, all, below, has, with, only, meet, connections, seats}
+use Rattle.cols_spec.specs.Sets.{all, below, has, with, only, meet, connections, seats}
 use Rattle.cols_spec.specs.Places.{At, Nowhere, find, used, distinct, every, load}
-use Rattle.domain.specs.declared.Limits.{Limits}
 use Rattle.domain.specs.declared.channel.Kind.{Kind}
 use Rattle.domain.specs.declared.channel.Kind.TheVariants.{Static, User, Private, Assigned}
 use Rattle.domain.specs.declared.channel.Channel.{Channel}

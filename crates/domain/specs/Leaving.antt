@@ -1,8 +1,8 @@
 -- Leaving: the users at the places `gone` leave together, and the connections `live` remain. All is judged on the tables before.
-use Rattle.std.specs.Prelude.{ℕ, Bool, true, false, not, ◌&&◌, List, [], ◌∷◌, ◌++◌}
+use Rattle.std.specs.Prelude.{ℕ, not, ◌&&◌, List, [], ◌∷◌, ◌++◌}
 use Rattle.std.proofs.Math.Option.{Option, none, some}
 use Rattle.cols_spec.specs.Sets.{if◌then◌else◌, keep, null, each, once, has, without, with, minus, meet, connections, seats}
-use Rattle.cols_spec.specs.Places.{Place, At, Nowhere, find, found, in_order, load}
+use Rattle.cols_spec.specs.Places.{At, Nowhere, find, found, in_order, load}
 use Rattle.codec_table.specs.Named.{DUin, CDin, TVcf, no_such_user, domain_disconnected}
 use Rattle.out_records.specs.Records.{Sent, to, tell}
 use Rattle.domain.specs.declared.channel.Kind.{Kind}

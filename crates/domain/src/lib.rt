@@ -1,4 +1,6 @@
 // What stands at a place of a table, and what an event is answered with.
+#![tactic(auto)]
+
 pub mod answer;
 pub mod channel;
 pub mod numbers;

@@ -4,13 +4,13 @@ use mathlib.Core.Bool.{Bool, true, false}
 use Prim.Native.Nat.{ℕ}
 use native.Mathlib.Omega.{arith}
 use lib.Dec.{eqb}
-use lib.ListN.{length, get_or}
+use lib.ListN.{get_or}
 use borrow.Author.Tests.{eqb-true}
 use Rattle.cols_spec.specs.Sets.{if◌then◌else◌}
 use Rattle.cols_spec.specs.Places.{Place, At, Nowhere, find}
 use Rattle.cols_spec.proofs.Rows.{find_holds, get_d_any}
 use Rattle.domain.specs.Tables.{Users, Domain, link, attached}
-use Rattle.domain.specs.Effects.{Effect, ignored, done, from, within}
+use Rattle.domain.specs.Effects.{Effect, ignored, from, within}
 use Rattle.domain.proofs.invariant.Sound.{Seated, Sound, Fine}
 
 module _ {A : Type 0} where

@@ -6,7 +6,6 @@ use lib.ListN.{length}
 use Rattle.cols_spec.proofs.Rows.{in_list}
 use Rattle.domain.specs.declared.channel.Kind.{Kind}
 use Rattle.domain.specs.declared.channel.Kind.TheVariants.{Static, User, Private, Assigned}
-use Rattle.domain.specs.declared.channel.Channel.{Channel}
 use Rattle.domain.specs.declared.token.Holding.{Holding}
 use Rattle.domain.specs.declared.token.Holding.TheVariants.{Free, Grabbed, Inhibited, Giving, Given}
 use Rattle.domain.specs.Cells.{kind, channel_of, with_marks, with_guests, hold, token_of}
