@@ -1,4 +1,6 @@
 // The one question that the line card's C program asks.
+#![tactic(auto)]
+
 ghost use Rattle.std.specs.Prelude.{◌≡◌};
 ghost use Rattle.codec_read.specs.Reading.{decode_of};
 ghost use Rattle.linecard.specs.Answers.{answer_of};
