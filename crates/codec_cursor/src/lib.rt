@@ -1,4 +1,6 @@
 // A reader that remembers the message and the bit that it has reached, and moves on field by field.
+#![tactic(auto)]
+
 ghost use Rattle.std.specs.Prelude.{◌≡◌, length};
 ghost use Rattle.codec_table.specs.Columns.{field_of};
 ghost use Rattle.codec_octets.specs.Places.{behind};
