@@ -11,7 +11,7 @@ use lib.Seq.{take-suc}
 use lib.Dec.{leb}
 use borrow.Author.Tests.{leb-true}
 use Rattle.codec_table.specs.Limits.{message_limit}
-use Rattle.codec_octets.specs.Octets.{Item, an_id, a_number, write_item, size}
+use Rattle.codec_octets.specs.Octets.{Item, an_id, a_number, write_item}
 use Rattle.codec_octets.proofs.OctetLaws.{both_left, both_right}
 use Rattle.codec_table.specs.Messages.{Field, code, item}
 use Rattle.codec_table.specs.Columns.{field_of, kind_at, fields_of}

@@ -1,4 +1,6 @@
 // The writer: the octets of a message, into the room lent, or a refusal with the room untouched.
+#![tactic(auto)]
+
 ghost use Rattle.std.specs.Prelude.{◌≡◌, ◌+◌, ◌*◌, ◌<◌, ◌≤◌, ◌^◌, true, length, take, ◌++◌, ltb};
 ghost use Rattle.codec_octets.specs.Octets.{an_id, a_number, octets_of, length_octets, write_item, fits_item, fits_tail, write_tail};
 ghost use Rattle.codec_table.specs.Limits.{message_limit};
