@@ -1,5 +1,7 @@
 // The short way: the messages of a few ids, which a conference sends most; those about tokens stand by themselves. What is declined here is no such
 // message, and goes the long way.
+#![tactic(auto)]
+
 pub mod lists;
 pub mod tokens;
 
