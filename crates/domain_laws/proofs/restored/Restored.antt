@@ -22,7 +22,7 @@ use Rattle.domain.specs.Cells.{no_channel, no_token, kind, channel_of}
 use Rattle.domain.specs.Tables.{Users, Channels, Tokens, Domain, link, channel, state, is_free, seen}
 use Rattle.domain_laws.specs.Same.{Role, role_of, channel_at, standing, token_at}
 use Rattle.domain_laws.specs.View.{View, view}
-use Rattle.domain_laws.specs.Built.{users_built, place, kind_built, channel_built, channels_built, holding_built, token_built, tokens_built, built, restores}
+use Rattle.domain_laws.specs.Built.{users_built, kind_built, channel_built, channels_built, holding_built, token_built, tokens_built, built, restores}
 use Rattle.domain.proofs.invariant.Sound.{Seated, Owned, UserRow, Sort, ChannelRow, Held, TokenRow, Sound}
 use Rattle.domain.proofs.invariant.Seats.{kind_of}
 use Rattle.domain.proofs.invariant.Rooms.{row_of}
