@@ -1,4 +1,6 @@
 // Salvages a torn trace window by window: what is decided at a place rests on no more than two frames.
+#![tactic(auto)]
+
 ghost use Rattle.std.specs.Prelude.{◌≡◌, ◌+◌, ◌-◌};
 ghost use Rattle.salvage_window.specs.Windows.{decided as decided_by, sure as sure_size, keeps as keeps_all, stops as stops_at, skips as skips_all, expected, passed, turn_of};
 ghost use Rattle.salvage_window.specs.Stands.{capped, stood};
