@@ -7,7 +7,7 @@ use native.Mathlib.Omega.{arith}
 use Rattle.codec_octets.specs.Octets.{nothing}
 use Rattle.codec_table.specs.Messages.{plain, entry, row, result, user, token, status}
 use Rattle.codec_table.specs.Codec.{octets_of_msg}
-use Rattle.codec_table.specs.Named.{fields, msg, TGcf, TIcf, TVcf, TRcf}
+use Rattle.codec_table.specs.Named.{fields, msg}
 use Rattle.out_records.specs.Records.{two, wire}
 use Rattle.out_records.proofs.Wire.{cons}
 use Rattle.out_messages.specs.Confirms.{confirm, number}

@@ -1,4 +1,6 @@
 // The messages of a fixed length that a top provider sends, as their octets by value; and what stands before the users in a record that lists them.
+#![tactic(auto)]
+
 ghost use Rattle.std.specs.Prelude.{◌≡◌, List, ◌++◌, ℕ, ◌-◌, ◌/◌, ◌%◌, ◌≤◌, length};
 ghost use Rattle.std.proofs.Math.Option.{none, some};
 ghost use Rattle.codec_table.specs.Limits.{list_limit};
