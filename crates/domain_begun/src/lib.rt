@@ -1,1 +1,3 @@
+#![tactic(auto)]
+
 // History that begins with an image. Definitions and theorems only.
