@@ -1,1 +1,3 @@
+#![tactic(auto)]
+
 // New ids in a circle. Definitions and theorems only.
