@@ -1,4 +1,6 @@
 // Where the reading of a message stops, and why: the refusal is decode's, the place is found by reading field by field.
+#![tactic(auto)]
+
 ghost use Rattle.std.specs.Prelude.{◌≡◌, ◌*◌, ◌<◌, ◌≤◌, length};
 ghost use Rattle.codec_table.specs.Limits.{message_limit};
 ghost use Rattle.codec_read.specs.Reading.{decode_of};
