@@ -4,7 +4,7 @@ use mathlib.Core.List.{List}
 use Prim.Native.Nat.{ℕ, ◌+◌, ◌*◌, ◌/◌, ◌≤◌}
 use native.Mathlib.Omega.{arith}
 use lib.ListN.{length, drop, length-drop}
-use Rattle.codec_octets.specs.Octets.{Read, got}
+use Rattle.codec_octets.specs.Octets.{Read}
 use Rattle.codec_octets.specs.Places.{left_at, bits_at, behind, at_octet, at_bit, EndsAt, Leaves, Octetwise, Bitwise}
 use Rattle.codec_octets.specs.declared.Got.{Got}
 use Rattle.codec_octets.specs.declared.Got.TheVariants.{Value, No}

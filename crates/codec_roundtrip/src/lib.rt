@@ -1,4 +1,6 @@
 // The writer and the reader together: what is written is read back.
+#![tactic(auto)]
+
 ghost use Rattle.codec_roundtrip.specs.RoundTrip.{ReadBack};
 ghost use Rattle.codec_size.specs.Sizes.{given};
 
