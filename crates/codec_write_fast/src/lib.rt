@@ -1,4 +1,6 @@
 // The short way of writing: the confirms of a token's requests, which a conference sends most. Everything else is written by the table of messages.
+#![tactic(auto)]
+
 ghost use Rattle.std.specs.Prelude.{◌≡◌, true, false, ◌++◌, length, get_or, drop};
 ghost use Rattle.codec_size.specs.Sizes.{given};
 ghost use Rattle.codec_write.specs.Writing.{Encodes};

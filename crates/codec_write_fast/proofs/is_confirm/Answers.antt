@@ -1,17 +1,13 @@
 use mathlib.Core.Logic.{⊎_elim}
 use mathlib.Core.Bool.{false≢true}
 use Rattle.out_messages.specs.declared.Confirm.TheVariants.{Grab, Inhibit, Give, Release}
-use Rattle.codec_write_fast.proofs.is_confirm.Statement.{statement}
-use Rattle.codec_write_fast.proofs.is_confirm.Tie as tie
+use Rattle.codec_write_fast.proofs.is_confirm.Goals as goal
 
-returns : tie.Need-returns
-returns c k =
+pub returns-in-30 : goal.returns-in-30
+returns-in-30 c k =
     ⊎_elim (λ e. record { kind = Grab; is = e })
     (⊎_elim (λ e. record { kind = Inhibit; is = e }) (⊎_elim (λ e. record { kind = Give; is = e }) (λ e. record { kind = Release; is = e })))
-    c.match.keys1
+    c.in-30.is
 
-returns-2 : tie.Need-returns-2
-returns-2 c k = absurd (false≢true k)
-
-pub is-confirm-spec : {M : Type 1} → statement M
-is-confirm-spec = tie.close (tie.spec returns returns-2)
+pub returns-in_default : goal.returns-in_default
+returns-in_default c k = absurd (false≢true k)
