@@ -5,7 +5,7 @@ use Prim.Native.Nat.{ℕ, zero, suc, ◌<◌, ◌^◌}
 use lib.Dec.{leb}
 use Rattle.codec_octets.specs.Octets.{got, give, octet, number, Bytes}
 use Rattle.codec_octets.proofs.OctetLaws.{refused, followed, needed, go_on}
-use Rattle.cols_spec.specs.Sets.{all, listed, those, member, connections}
+use Rattle.cols_spec.specs.Sets.{all, listed, those, member}
 use Rattle.domain.specs.declared.Limits.{Limits}
 use Rattle.domain.specs.Outcomes.{limited}
 use Rattle.domain_laws.specs.Same.{Role, static, user-id, assigned, private_of, Standing, nobody, grabbed, inhibited, giving, given}

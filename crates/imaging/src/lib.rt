@@ -1,1 +1,3 @@
+#![tactic(auto)]
+
 // Images: the octets that keep the tables over a restart. Definitions and theorems only.
