@@ -6,7 +6,7 @@ use Rattle.codec_table.specs.Named.{Message, AUrq, DUrq, DUin, TGrq, TGcf, TIrq,
 use Rattle.codec_table.specs.Named.{successful, no_such_user, too_many_tokens, user_rejected, user_requested, not_in_use, self_grabbed, self_inhibited, other_giving}
 use Rattle.out_records.specs.Records.{Sent, to}
 use Rattle.domain.specs.declared.token.Holding.{Holding}
-use Rattle.domain.specs.declared.token.Holding.TheVariants.{Free, Grabbed, Inhibited, Giving, Given}
+use Rattle.domain.specs.declared.token.Holding.TheVariants.{Free, Grabbed, Inhibited, Given}
 use Rattle.domain.specs.Tables.{Domain, fresh, state}
 use Rattle.domain.specs.Events.{Event, opens, hears, reads, step, Outcome as Stepped}
 
