@@ -1,5 +1,5 @@
 -- Channels of every kind joined and left; connections lost. What is said was worked out by an independent model.
-use Rattle.std.specs.Prelude.{ℕ, List, [], ◌∷◌}
+use Rattle.std.specs.Prelude.{List, [], ◌∷◌}
 use Rattle.std.proofs.Math.Option.{none, some}
 use Rattle.codec_table.specs.Named.{AUcf, AUrq, CJcf, CJrq, CLrq, DPum, DUin, DUrq, EDrq}
 use Rattle.out_records.specs.Records.{to}

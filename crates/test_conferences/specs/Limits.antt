@@ -1,5 +1,5 @@
 -- The limits reached and freed again. What is said was worked out by an independent model.
-use Rattle.std.specs.Prelude.{ℕ, List, [], ◌∷◌}
+use Rattle.std.specs.Prelude.{List, [], ◌∷◌}
 use Rattle.std.proofs.Math.Option.{none, some}
 use Rattle.codec_table.specs.Named.{AUcf, AUrq, CCcf, CCrq, CJcf, CJrq, CLrq, DUin, DUrq, TGcf, TGrq, TIcf, TIrq, TRcf, TRrq}
 use Rattle.out_records.specs.Records.{to}

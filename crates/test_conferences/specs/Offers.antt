@@ -1,5 +1,5 @@
 -- Offers of tokens: taken, declined, given up by their giver, left by either side. What is said was worked out by an independent model.
-use Rattle.std.specs.Prelude.{ℕ, List, [], ◌∷◌}
+use Rattle.std.specs.Prelude.{List, [], ◌∷◌}
 use Rattle.std.proofs.Math.Option.{some}
 use Rattle.codec_table.specs.Named.{AUcf, AUrq, DPum, DUin, DUrq, TGcf, TGrq, TIcf, TIrq, TPin, TPrq, TRcf, TRrq, TTcf, TTrq, TVcf, TVin, TVrq, TVrs}
 use Rattle.out_records.specs.Records.{to}

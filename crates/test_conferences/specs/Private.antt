@@ -1,5 +1,5 @@
 -- Private channels: admitted, expelled, joined, disbanded, left by their manager. What is said was worked out by an independent model.
-use Rattle.std.specs.Prelude.{ℕ, List, [], ◌∷◌}
+use Rattle.std.specs.Prelude.{List, [], ◌∷◌}
 use Rattle.std.proofs.Math.Option.{none, some}
 use Rattle.codec_table.specs.Named.{AUcf, AUrq, CAin, CArq, CCcf, CCrq, CDin, CDrq, CEin, CErq, CJcf, CJrq, CLrq, DUin, DUrq, RJum}
 use Rattle.out_records.specs.Records.{to}

@@ -1,5 +1,5 @@
 -- What the tables say, with users by their ids and every list ascending: places do not show.
-use Rattle.std.specs.Prelude.{ℕ, List, [], ◌∷◌, ◌++◌, Bool, true, false, length}
+use Rattle.std.specs.Prelude.{ℕ, List, [], ◌∷◌, ◌++◌, false, length}
 use Rattle.cols_spec.specs.Sets.{each, keep, has}
 use Rattle.cols_spec.specs.Places.{At, Nowhere, find, in_order, load, used}
 use Rattle.domain.specs.declared.channel.Kind.{Kind}

@@ -1,1 +1,3 @@
+#![tactic(auto)]
+
 // The machine's definitions tried on their own: worked conferences, computed.
