@@ -1,5 +1,6 @@
 // The codec for a C program to time and compare: the ways of reading and of writing that the provider has, the short ones before the table of messages.
 // What a function does not read or write goes by the next.
+#![tactic(auto)]
 
 // The number of a message that no short way has read.
 const NOT_READ: u32 = 64;
