@@ -1,7 +1,7 @@
 -- Octets moved to the front of a buffer, and spans of it. Assumes nothing.
 use Prim.Native.Nat.{ℕ, suc, ◌+◌, ◌-◌, ◌<◌, ◌≤◌}
 use mathlib.Core.Path.{◌≡◌, refl, sym, ap, ◌∙◌}
-use mathlib.Core.Bool.{Bool, true, false, ◌&&◌, ◌||◌, cond, and-false}
+use mathlib.Core.Bool.{Bool, true, false, ◌||◌, cond, and-false}
 use mathlib.Core.List.{List, [], ◌∷◌, ◌++◌}
 use native.Mathlib.Nat.{add_comm}
 use native.Mathlib.Numerals.{add-one}
@@ -9,7 +9,7 @@ use native.Mathlib.Omega.{arith}
 use borrow.Author.Tests.{le-leb, lt-leb, eqb-false}
 use lib.Dec.{leb, eqb}
 use Rattle.trace_frames.specs.Frames.{size_of}
-use lib.ListN.{length, take, drop, get_or, set, length-append, length-take, length-drop}
+use lib.ListN.{length, take, drop, get_or, set, length-append, length-drop}
 use lib.Seq.{length-take-le, drop-cons, set_at, get_or-append-add, get_or-drop, take-suc, append_snoc, take_at, take-take}
 use Rattle.trace_io.specs.declared.input.Span.{Span}
 use Rattle.trace_io.specs.Input.{Within, clip, unread, Refills, Ready}

@@ -1,17 +1,17 @@
 -- Octets laid into a text one behind the other. Assumes nothing.
 use Prim.Native.Nat.{ℕ, zero, suc, ◌+◌, ◌-◌, ◌*◌, ◌/◌, ◌%◌, ◌^◌, ◌<◌, ◌≤◌}
 use mathlib.Core.Path.{◌≡◌, refl, sym, ap, ◌∙◌}
-use mathlib.Core.Bool.{Bool, true, false, cond}
+use mathlib.Core.Bool.{Bool, true, false}
 use mathlib.Core.List.{List, [], ◌∷◌, ◌++◌, append_assoc}
-use native.Mathlib.Nat.{add-suc, zero-add, pow-succ', pow-le-pow_right}
+use native.Mathlib.Nat.{add-suc, pow-succ', pow-le-pow_right}
 use native.Mathlib.Numerals.{add-one}
 use native.Mathlib.Omega.{arith}
 use borrow.Author.Tests.{leb-true, leb-false, le-leb, lt-leb, le-ltb, lt-ltb}
-use lib.Dec.{leb, ltb, lit<}
+use lib.Dec.{leb, lit<}
 use lib.ListN.{length, take, drop, get_or, set, length-append, drop_of_length-le}
 use lib.Seq.{sets, sets-eq, length-sets, drop-cons, take_at, length-take-le, take-suc-set}
 use Rattle.io.specs.Digits.{hex_digit_ascii, last_digits, IsDigitCount}
-use Rattle.trace_io.specs.Lines.{digits_in, decimal, field, line_of, collected, Adds}
+use Rattle.trace_io.specs.Lines.{digits_in, field, collected, Adds}
 
 -- one octet more is laid
 pub sets_on : (s : List ℕ) (at i : ℕ) (os : List ℕ) → i < length os

@@ -1,5 +1,5 @@
 -- The octets of a trace that are read and not taken yet. What a call of the system reads no definition can say.
-use Rattle.std.specs.Prelude.{ℕ, ◌+◌, ◌-◌, ◌<◌, ◌≤◌, ◌≡◌, Bool, true, false, ◌&&◌, ◌||◌, cond, List, [], leb, length, take, drop}
+use Rattle.std.specs.Prelude.{ℕ, ◌-◌, ◌<◌, ◌≤◌, ◌≡◌, true, false, ◌&&◌, ◌||◌, cond, List, leb, length, take, drop}
 use Rattle.trace_frames.specs.Frames.{size_of}
 use Rattle.trace_io.specs.declared.input.Span.{Span}
 

@@ -1,5 +1,5 @@
 -- The lines that a trace prints.
-use Rattle.std.specs.Prelude.{ℕ, zero, suc, ◌+◌, ◌/◌, ◌%◌, ◌≤◌, ◌≡◌, Bool, cond, List, [], ◌∷◌, ◌++◌, leb, ltb, length, take}
+use Rattle.std.specs.Prelude.{ℕ, zero, suc, ◌+◌, ◌/◌, ◌%◌, ◌≤◌, ◌≡◌, cond, List, [], ◌∷◌, ◌++◌, leb, ltb, length, take}
 use Rattle.std.proofs.lemmas.List.Edits.{sets}
 use Rattle.trace_io.specs.declared.lines.Report.{Report}
 

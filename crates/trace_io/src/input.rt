@@ -3,8 +3,10 @@ ghost use Rattle.std.specs.Prelude.{◌≡◌, ◌||◌, ◌+◌, ◌-◌, ◌�
 ghost use Rattle.trace_frames.specs.Frames.{size_of};
 ghost use Rattle.trace_io.specs.Input.{nothing, Within, clip, unread, Starts, Refills, Ready};
 
+use std::io::Read;
+
 // Which octets of the buffer are read and not taken, and whether the input has ended.
-#[derive(Drop)]
+#[derive(Clone, Copy)]
 pub struct Span {
     pub from: usize,
     pub to: usize,
@@ -65,16 +67,40 @@ pub fn to_start(buf: &mut [u8], have: Span) -> usize
     to_front(buf, from, to)
 }
 
+// Reads once, and answers how many octets came. A read that fails brings none.
+pub fn read_once<R: Read>(input: &mut R, room: &mut [u8]) -> usize
+    ensures { result ≤ length room.new }
+{
+    match input.read(room) {
+        Ok(n) => n,
+        Err(_) => 0,
+    }
+}
+
+// Reads until the room is full, the input ends or a read fails, and answers how many octets came.
+pub fn read_full<R: Read>(input: &mut R, room: &mut [u8]) -> usize
+    ensures { result ≤ length room.new }
+{
+    let mut done = 0;
+    while done < room.len() {
+        let n = read_once(input, &mut room[done..]);
+        if n == 0 {
+            return done;
+        }
+        done += n;
+    }
+    done
+}
+
 // Reads once behind the octets that are not taken. Where nothing comes, the input has ended.
-fn refill(fd: i32, buf: &mut [u8], have: Span) -> Span
+fn refill<R: Read>(input: &mut R, buf: &mut [u8], have: Span) -> Span
     requires { Within (length buf.old) have }
     ensures { Refills buf.old have buf.new result }
 {
     let from = have.from;
     let to = have.to;
     let n = to_front(buf, from, to);
-    let got = libc::read(fd, &mut buf[n..]);
-    let more = io::count(got, &buf[n..]);
+    let more = read_once(input, &mut buf[n..]);
     let end = n + more;
     Span {
         from: 0,
@@ -97,12 +123,12 @@ fn settled(buf: &[u8], have: Span) -> bool
 }
 
 // Reads until a whole frame stands at the front of what is not taken, or the input has ended.
-pub fn ready(fd: i32, buf: &mut [u8], have: Span) -> Span
+pub fn ready<R: Read>(input: &mut R, buf: &mut [u8], have: Span) -> Span
     ensures { Ready buf.old (clip (length buf.old) have) buf.new result }
 {
     let mut span = clipped(buf.len(), have);
     while !settled(buf, span) {
-        span = refill(fd, buf, span);
+        span = refill(input, buf, span);
     }
     span
 }

@@ -3,10 +3,13 @@ ghost use Rattle.std.specs.Prelude.{◌≡◌, [], ◌∷◌, ◌++◌, ◌+◌,
 ghost use Rattle.std.proofs.lemmas.List.Edits.{sets};
 ghost use Rattle.trace_io.specs.Lines.{decimal, field, line_of, collected, Says, Adds};
 
-use libc::STDOUT_FILENO;
+// The descriptors that are written to: standard output and standard error.
+pub const OUTPUT: i32 = 1;
+
+pub const ERRORS: i32 = 2;
 
 // What a frame prints.
-#[derive(Drop)]
+#[derive(Clone, Copy)]
 pub struct Report {
     pub reply: u64,
     pub sent: u64,
@@ -43,7 +46,7 @@ fn put_field(text: &mut [u8], at: usize, n: u64, mark: u8) -> usize
 // Writes the first octets of out.
 pub fn flush(out: &[u8], filled: usize) {
     if filled <= out.len() {
-        io::write_all(STDOUT_FILENO, &out[..filled]);
+        io::write_all(OUTPUT, &out[..filled]);
     }
 }
 
@@ -72,7 +75,7 @@ pub fn collect(out: &mut [u8], filled: usize, text: &[u8]) -> usize
         lay(out, 0, text);
         return size;
     }
-    io::write_all(STDOUT_FILENO, text);
+    io::write_all(OUTPUT, text);
     0
 }
 

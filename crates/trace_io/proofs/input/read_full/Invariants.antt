@@ -1,0 +1,9 @@
+-- `trace_io::input::read_full` meets its contract: each turn brings an octet more. Assumes nothing.
+use Rattle.std.proofs.Common.{length, ◌-◌, ◌≡◌, ◌≤◌}
+use Rattle.trace_io.proofs.input.read_full.Given as goal
+
+abbrev pub invariant-loop-done : goal.invariant-loop-done
+invariant-loop-done g l = (length l.room ≡ length l.initial.room) × (l.done ≤ length l.room)
+
+abbrev pub decreases-loop-done : goal.decreases-loop-done
+decreases-loop-done g l = length l.room - l.done
