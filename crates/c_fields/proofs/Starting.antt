@@ -1,9 +1,9 @@
 -- What a start does to limits that stood before it: done, it does not ask after them; refused, it leaves them.
+use Rattle.std.specs.Prelude.{if◌then◌else◌}
 use mathlib.Core.Path.{◌≡◌, ap}
 use mathlib.Core.Bool.{Bool, true, false}
 use Prim.Native.Nat.{ℕ}
 use native.Mathlib.Omega.{arith}
-use Rattle.cols_spec.specs.Sets.{if◌then◌else◌}
 use Rattle.domain.specs.declared.Limits.{Limits}
 use Rattle.domain.specs.Tables.{Domain, in_range}
 use Rattle.domain.specs.Outcomes.{limited, begun}

@@ -1,4 +1,5 @@
 -- Of the n places from `from` on k are looked at. `most` is 0 where none of them holds x, else so many of the n were left at the first that does.
+use Rattle.std.specs.Prelude.{if◌then◌else◌}
 use mathlib.Core.Path.{◌≡◌, refl, ◌∙◌}
 use mathlib.Core.Bool.{Bool, true, false}
 use mathlib.Core.List.{List}
@@ -7,7 +8,6 @@ use native.Mathlib.Omega.{arith}
 use lib.Dec.{eqb}
 use lib.ListN.{length, get_or, drop}
 use borrow.Author.Tests.{eqb-true, eqb-false}
-use Rattle.cols_spec.specs.Sets.{if◌then◌else◌}
 use Rattle.cols_spec.specs.Places.{first}
 use Rattle.cols_spec.proofs.Places.{first_miss}
 

@@ -1,5 +1,6 @@
 -- Of the places from `from` on k are looked at, and `sum` has 256 and its place for each of them that holds x: below 256 it is 0, and none does; below 512
 -- one does, and its place is what is above 256.
+use Rattle.std.specs.Prelude.{if◌then◌else◌}
 use mathlib.Core.Path.{◌≡◌, refl, ◌∙◌}
 use mathlib.Core.Bool.{Bool, true, false}
 use mathlib.Core.List.{List}
@@ -8,7 +9,6 @@ use native.Mathlib.Omega.{arith}
 use lib.Dec.{eqb, ltb}
 use lib.ListN.{length, get_or}
 use borrow.Author.Tests.{eqb-false, ltb-true, ltb-false}
-use Rattle.cols_spec.specs.Sets.{if◌then◌else◌}
 use Rattle.cols_spec.proofs.Places.{first_miss}
 use Rattle.cols_find.proofs.Looked.{Past, past}
 

@@ -1,4 +1,5 @@
 -- How many a mask has: its ones, and the length of its list.
+use Rattle.std.specs.Prelude.{if◌then◌else◌}
 use mathlib.Core.Path.{◌≡◌, refl, sym, ap, ap₂, ◌∙◌}
 use mathlib.Core.Bool.{Bool, true, false}
 use mathlib.Core.List.{List, [], ◌∷◌}
@@ -9,7 +10,7 @@ use lib.Arith.{lt-one}
 use lib.Count.{ones, ones_step}
 use lib.Dec.{eqb}
 use lib.ListN.{length}
-use Rattle.cols_spec.specs.Sets.{if◌then◌else◌, keep, upto, has, listed}
+use Rattle.cols_spec.specs.Sets.{keep, upto, has, listed}
 use Rattle.cols_spec.proofs.Digits.{has_zero, has_suc, half_lt_pow}
 
 digit : Bool → ℕ

@@ -1,4 +1,5 @@
 -- Laws of masks: a mask is known by what it has.
+use Rattle.std.specs.Prelude.{if◌then◌else◌}
 use mathlib.Core.Path.{◌≡◌, refl, sym, ap, ap₂, ◌∙◌, subst}
 use mathlib.Core.Bool.{Bool, true, false, not, ◌&&◌, ◌||◌, true≢false, false≢true}
 use Prim.Native.Nat.{ℕ, zero, suc, ◌+◌, ◌*◌, ◌/◌, ◌%◌, ◌^◌, ◌≤◌, ◌<◌, suc-le-suc, min, max, zero-le}
@@ -9,7 +10,7 @@ use lib.Pow.{shr-shr, shl_exact, pow_mono, pow-lt, pow_pos}
 use lib.Bits.{bit_and, bit_or, bit_xor, differ, and_step, or_step, xor_step, and_lt, or_lt, xor_lt}
 use lib.Dec.{eqb, eqb-zero-suc, eqb-suc-zero, eqb-suc-suc}
 use borrow.Author.Tests.{eq-eqb, ne_eqb, eqb-true, eqb-false}
-use Rattle.cols_spec.specs.Sets.{if◌then◌else◌, has, those, those_from, with, without, minus, meet, union, only}
+use Rattle.cols_spec.specs.Sets.{has, those, those_from, with, without, minus, meet, union, only}
 
 digit : Bool → ℕ
 digit b = if b then 1 else 0

@@ -1,4 +1,5 @@
 -- Where an id is found and what it holds, in any table: after one has come, after one has changed or gone, after a sweep.
+use Rattle.std.specs.Prelude.{if◌then◌else◌}
 use mathlib.Core.Path.{◌≡◌, refl, sym, ap, ◌∙◌}
 use mathlib.Core.Bool.{Bool, true, false}
 use mathlib.Core.List.{List, map}
@@ -8,7 +9,6 @@ use native.Mathlib.Omega.{arith}
 use lib.Dec.{eqb}
 use lib.ListN.{length, get_or, set}
 use borrow.Author.Tests.{eq-eqb, ne_eqb, eqb-true, eqb-false}
-use Rattle.cols_spec.specs.Sets.{if◌then◌else◌}
 use Rattle.cols_spec.specs.Places.{Place, At, Nowhere, find, spare, used, store, load, turns_to, sweep}
 use Rattle.cols_spec.proofs.Digits.{eqb_sym}
 use Rattle.cols_spec.proofs.Rows.{At≢Nowhere, same_place, find_holds, find_none, find_is, find_gone, at_set}

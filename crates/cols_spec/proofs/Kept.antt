@@ -1,4 +1,5 @@
 -- Ids in order, where only some of them bring anything: these stand in a column of their own and are taken from there.
+use Rattle.std.specs.Prelude.{if◌then◌else◌}
 use mathlib.Core.Path.{◌≡◌, refl, sym, ap, ◌∙◌}
 use mathlib.Core.Bool.{Bool, true, false, true≢false, false≢true}
 use mathlib.Core.List.{List, [], ◌∷◌, ◌++◌}
@@ -7,7 +8,7 @@ use native.Mathlib.Omega.{arith}
 use native.Mathlib.Nat.{le_refl, add-zero, zero-add, add-suc, suc-add}
 use lib.Dec.{ltb}
 use lib.ListN.{length, get_or}
-use Rattle.cols_spec.specs.Sets.{if◌then◌else◌, any, each, member}
+use Rattle.cols_spec.specs.Sets.{any, each, member}
 use Rattle.cols_spec.specs.Places.{At, find, next, rising, in_order, picked}
 use Rattle.cols_spec.proofs.Rows.{in_list, find_holds}
 use Rattle.cols_spec.proofs.Answers.{stands-found, found-somewhere}

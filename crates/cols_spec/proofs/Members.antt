@@ -1,4 +1,5 @@
 -- Members of a list of ids: by their places, of what is kept of it, and each once.
+use Rattle.std.specs.Prelude.{if◌then◌else◌}
 use mathlib.Core.Path.{◌≡◌, refl, sym, ap, ◌∙◌}
 use mathlib.Core.Bool.{Bool, true, false, not, ◌&&◌, ◌||◌, false≢true, or-true, and-false, and-true}
 use mathlib.Core.List.{List, [], ◌∷◌, ◌++◌}
@@ -8,7 +9,7 @@ use native.Mathlib.Nat.{le_of_suc-le-suc}
 use lib.Dec.{eqb}
 use lib.ListN.{length, get_or}
 use borrow.Author.Tests.{eq-eqb, eqb-true}
-use Rattle.cols_spec.specs.Sets.{if◌then◌else◌, any, member, keep, firsts, once}
+use Rattle.cols_spec.specs.Sets.{any, member, keep, firsts, once}
 use Rattle.cols_spec.proofs.Bools.{or_elim}
 
 pub member_at : (ids : List ℕ) (i : ℕ) → i < length ids → member (get_or ids i 0) ids ≡ true

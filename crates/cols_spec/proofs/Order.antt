@@ -1,4 +1,5 @@
 -- The ids in order are all of them, and of enough ids one is free.
+use Rattle.std.specs.Prelude.{if◌then◌else◌}
 use mathlib.Core.Path.{◌≡◌, refl, sym, ap, ◌∙◌}
 use mathlib.Core.Bool.{Bool, true, false, ◌||◌, true≢false, false≢true, or-true}
 use mathlib.Core.List.{List, [], ◌∷◌}
@@ -7,7 +8,7 @@ use native.Mathlib.Omega.{arith}
 use lib.Dec.{eqb, ltb}
 use lib.ListN.{length}
 use borrow.Author.Tests.{ne_eqb, eqb-true, eqb-false, ltb-true, ltb-false, lt-ltb, le-ltb}
-use Rattle.cols_spec.specs.Sets.{if◌then◌else◌, keep, member, any}
+use Rattle.cols_spec.specs.Sets.{keep, member, any}
 use Rattle.cols_spec.specs.Places.{Place, At, Nowhere, find, found, lesser, next, rising, in_order, unused}
 use Rattle.cols_spec.proofs.Bools.{and_parts, or_parts}
 use Rattle.cols_spec.proofs.Rows.{find_holds}

@@ -1,4 +1,5 @@
 -- A search for an id, ids that stand once, and a loop over the places of a table.
+use Rattle.std.specs.Prelude.{if◌then◌else◌}
 use mathlib.Core.Path.{◌≡◌, refl, sym, ◌∙◌}
 use mathlib.Core.Bool.{Bool, true, false, not, ◌||◌}
 use mathlib.Core.List.{List, [], ◌∷◌, ◌++◌, map, append-nil}
@@ -11,7 +12,7 @@ use lib.Dec.{eqb}
 use lib.ListN.{length, get_or, set, take, drop, drop_of_length-le}
 use lib.Seq.{drop-cons, drop-set-lt, take-suc-set, append_snoc, take_all, set-get_or}
 use borrow.Author.Tests.{eq-eqb, ne_eqb, not-true}
-use Rattle.cols_spec.specs.Sets.{if◌then◌else◌, member}
+use Rattle.cols_spec.specs.Sets.{member}
 use Rattle.cols_spec.specs.Places.{Place, At, Nowhere, first, becomes, sweep, distinct}
 use Rattle.cols_spec.proofs.Bools.{and_parts}
 

@@ -1,4 +1,5 @@
 -- A table by its places: what one place holds after a change of one place, and of all; where an id stands; how many are in use.
+use Rattle.std.specs.Prelude.{if◌then◌else◌}
 use mathlib.Core.Path.{◌≡◌, refl, sym, ap, ◌∙◌, subst}
 use mathlib.Core.Bool.{Bool, true, false, true≢false}
 use mathlib.Core.List.{List, [], ◌∷◌, map}
@@ -10,7 +11,7 @@ use lib.Dec.{eqb, ltb}
 use lib.ListN.{length, get_or, set}
 use lib.Seq.{get_or-set_same, get_or-set_other}
 use borrow.Author.Tests.{eq-eqb, ne_eqb, eqb-true, eqb-false, ltb-true, ltb-false}
-use Rattle.cols_spec.specs.Sets.{if◌then◌else◌, keep}
+use Rattle.cols_spec.specs.Sets.{keep}
 use Rattle.cols_spec.specs.Places.{Place, At, Nowhere, first, find, found, used, becomes, sweep}
 use Rattle.cols_spec.proofs.Places.{shift, first_shift}
 

@@ -1,4 +1,5 @@
 -- A table that is in order, place by place, and the changes that keep it so: any table, any rule of its rows.
+use Rattle.std.specs.Prelude.{if◌then◌else◌}
 use mathlib.Core.Path.{◌≡◌, refl, sym, ◌∙◌, subst}
 use mathlib.Core.Bool.{Bool, true, false}
 use mathlib.Core.List.{List, map}
@@ -10,7 +11,6 @@ use lib.Dec.{eqb}
 use lib.ListN.{length, get_or, set, length-set}
 use lib.Seq.{set-get_or}
 use borrow.Author.Tests.{eq-eqb, ne_eqb, eqb-true, eqb-false}
-use Rattle.cols_spec.specs.Sets.{if◌then◌else◌}
 use Rattle.cols_spec.specs.Places.{At, spare, used, store, becomes, turns_to, sweep}
 use Rattle.cols_spec.proofs.Rows.{first_holds, in_list, Apart, used_le, used_set, spare_there, at_set, swept_at, sweep_sizes}
 

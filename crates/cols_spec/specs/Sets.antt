@@ -1,16 +1,12 @@
 -- Choices, lists and masks. A mask is a number that stands for a set of small numbers: its binary digit k is 1 where k is in the set.
-use Rattle.std.specs.Prelude.{ℕ, zero, suc, ◌+◌, ◌*◌, ◌/◌, ◌%◌, ◌^◌, ◌≤◌, ◌<◌, ◌≡◌, Bool, true, false, not, ◌&&◌, ◌||◌, List, [], ◌∷◌, ◌++◌, eqb}
-
-infix 5 if◌then◌else◌
-abbrev pub if◌then◌else◌ {ℓ} : {A : Type ℓ} → Bool → A → A → A
-if◌then◌else◌ true a b = a
-if◌then◌else◌ false a b = b
+use Rattle.std.specs.Prelude.{ℕ, zero, suc, ◌+◌, ◌*◌, ◌/◌, ◌%◌, ◌^◌, ◌≤◌, ◌<◌, ◌≡◌, Bool, true, false, not, ◌&&◌, ◌||◌, List, [], ◌∷◌, ◌++◌, eqb, cond}
+pub use Rattle.std.specs.Prelude.{if◌then◌else◌}
 
 module _ {ℓ} {A : Type ℓ} where
   -- the elements that pass, in their order
   unfoldable pub keep : (A → Bool) → List A → List A
   keep f [] = []
-  keep f (x ∷ xs) = let r = keep f xs in if f x then x ∷ r else r
+  keep f (x ∷ xs) = let r = keep f xs in cond (f x) (x ∷ r) r
 
   -- some element passes
   unfoldable pub any : (A → Bool) → List A → Bool

@@ -1,11 +1,11 @@
 -- A request on part of the tables, as a request on the domain. Assumes nothing.
+use Rattle.std.specs.Prelude.{if◌then◌else◌}
 use mathlib.Core.Path.{◌≡◌, refl, sym, ap, ◌∙◌}
 use mathlib.Core.Bool.{Bool, true, false}
 use mathlib.Core.List.{List, ◌++◌}
 use Prim.Native.Nat.{ℕ}
 use lib.Dec.{ltb}
 use lib.ListN.{length, drop}
-use Rattle.cols_spec.specs.Sets.{if◌then◌else◌}
 use Rattle.codec_table.specs.Named.{Message}
 use Rattle.out_records.specs.Records.{records}
 use Rattle.domain.specs.declared.Limits.{Limits}

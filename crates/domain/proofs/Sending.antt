@@ -1,12 +1,13 @@
 -- Lists of records of which each passes a test: one message to several connections, each connection's own ids, what leaving sends, and what is sent with a
 -- refusal. Assumes nothing.
+use Rattle.std.specs.Prelude.{if◌then◌else◌}
 use mathlib.Core.Path.{◌≡◌, refl}
 use mathlib.Core.Bool.{Bool, true, false, not, ◌&&◌}
 use mathlib.Core.List.{List, [], ◌∷◌, ◌++◌, map}
 use Prim.Native.Nat.{ℕ}
 use lib.Dec.{eqb}
 use lib.ListN.{take}
-use Rattle.cols_spec.specs.Sets.{if◌then◌else◌, all, null, each, keep, below, has, with, meet, listed, connections, seats}
+use Rattle.cols_spec.specs.Sets.{all, null, each, keep, below, has, with, meet, listed, connections, seats}
 use Rattle.cols_spec.specs.Places.{found, in_order}
 use Rattle.codec_table.specs.Named.{Message, RJum, DUin, CDin, TVcf, no_such_user}
 use Rattle.out_records.specs.Records.{Sent, to, tell}

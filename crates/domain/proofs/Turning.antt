@@ -1,5 +1,6 @@
 -- How the answers of the functions below join to one event: what is sent in a room, connections that are not open, and requests that are settled.
 -- Assumes nothing.
+use Rattle.std.specs.Prelude.{if◌then◌else◌}
 use mathlib.Core.Path.{◌≡◌, refl, sym, ap, ◌∙◌}
 use mathlib.Core.Bool.{Bool, true, false, not, ◌||◌}
 use mathlib.Core.List.{List, ◌++◌}
@@ -7,7 +8,7 @@ use Prim.Native.Nat.{ℕ, ◌≤◌, ◌<◌}
 use borrow.Author.Tests.{lt-ltb, le-ltb}
 use lib.Dec.{ltb}
 use lib.ListN.{length, drop}
-use Rattle.cols_spec.specs.Sets.{if◌then◌else◌, has, with, connections}
+use Rattle.cols_spec.specs.Sets.{has, with, connections}
 use Rattle.out_records.specs.Records.{Sent, records}
 use Rattle.domain.specs.Tables.{Domain, put_links, grant}
 use Rattle.domain.specs.Effects.{Effect, ignored, done, settled, delivers, settle}

@@ -1,8 +1,8 @@
 -- What requests about users and channels do: the tables after them, and the records to send, in their order. `new` is the id that a new user,
 -- assigned or private channel gets; `full` says that the channel limit is reached.
-use Rattle.std.specs.Prelude.{ℕ, zero, suc, Bool, false, ◌||◌, List, [], ◌∷◌, eqb, ltb}
+use Rattle.std.specs.Prelude.{ℕ, zero, suc, Bool, false, ◌||◌, List, [], ◌∷◌, eqb, ltb, if◌then◌else◌}
 use Rattle.std.proofs.Math.Option.{Option, none, some}
-use Rattle.cols_spec.specs.Sets.{if◌then◌else◌, keep, any, null, each, below, member, once, has, those, with, without, minus, meet, union, only, connections, seats}
+use Rattle.cols_spec.specs.Sets.{keep, any, null, each, below, member, once, has, those, with, without, minus, meet, union, only, connections, seats}
 use Rattle.cols_spec.specs.Places.{Place, At, Nowhere, find, found, load}
 use Rattle.codec_table.specs.Named.{Message, AUcf, CJcf, CCcf, CDin, CAin, CEin, successful, no_such_channel, not_admitted, other_user_id, too_many_channels, too_many_users}
 use Rattle.out_records.specs.Records.{Sent, to, tell}

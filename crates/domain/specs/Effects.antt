@@ -1,6 +1,5 @@
 -- What comes of a request: it is ignored, or done. And how the answer is settled: 9 where the records exceed the room.
-use Rattle.std.specs.Prelude.{ℕ, Bool, List, ◌++◌, ltb, length, drop}
-use Rattle.cols_spec.specs.Sets.{if◌then◌else◌}
+use Rattle.std.specs.Prelude.{ℕ, Bool, List, ◌++◌, ltb, length, drop, if◌then◌else◌}
 use Rattle.cols_spec.specs.Places.{At, Nowhere}
 use Rattle.out_records.specs.Records.{Sent, records}
 use Rattle.domain.specs.declared.answer.Answer.{Answer}

@@ -1,6 +1,6 @@
 -- One event on the domain: the reply, the tables after it, and the records sent.
-use Rattle.std.specs.Prelude.{ℕ, Bool, not, ◌||◌, List, [], ◌∷◌, eqb, ltb, take}
-use Rattle.cols_spec.specs.Sets.{if◌then◌else◌, has, with, connections}
+use Rattle.std.specs.Prelude.{ℕ, Bool, not, ◌||◌, List, [], ◌∷◌, eqb, ltb, take, if◌then◌else◌}
+use Rattle.cols_spec.specs.Sets.{has, with, connections}
 use Rattle.codec_table.specs.Named.{Message, EDrq, DPum, RJum, AUrq, AUcf, DUrq, DUin, CJrq, CJcf, CLrq, CCrq, CCcf, CDrq, CDin, CArq, CAin, CErq, CEin}
 use Rattle.codec_table.specs.Named.{TGrq, TGcf, TIrq, TIcf, TVrq, TVin, TVrs, TVcf, TPrq, TPin, TRrq, TRcf, TTrq, TTcf, forbidden_PDU_upward, invalid_PER_encoding}
 use Rattle.out_records.specs.Records.{Sent, to, records}

@@ -1,7 +1,7 @@
 -- Leaving: the users at the places `gone` leave together, and the connections `live` remain. All is judged on the tables before.
-use Rattle.std.specs.Prelude.{ℕ, not, ◌&&◌, List, [], ◌∷◌, ◌++◌}
+use Rattle.std.specs.Prelude.{ℕ, not, ◌&&◌, List, [], ◌∷◌, ◌++◌, if◌then◌else◌}
 use Rattle.std.proofs.Math.Option.{Option, none, some}
-use Rattle.cols_spec.specs.Sets.{if◌then◌else◌, keep, null, each, once, has, without, with, minus, meet, connections, seats}
+use Rattle.cols_spec.specs.Sets.{keep, null, each, once, has, without, with, minus, meet, connections, seats}
 use Rattle.cols_spec.specs.Places.{At, Nowhere, find, found, in_order, load}
 use Rattle.codec_table.specs.Named.{DUin, CDin, TVcf, no_such_user, domain_disconnected}
 use Rattle.out_records.specs.Records.{Sent, to, tell}

@@ -1,6 +1,6 @@
 -- What one event does to the domain and to the room lent for its answer; how a domain starts, and what is asked of it.
-use Rattle.std.specs.Prelude.{ℕ, List, ◌++◌, length, drop}
-use Rattle.cols_spec.specs.Sets.{if◌then◌else◌, listed, connections}
+use Rattle.std.specs.Prelude.{ℕ, List, ◌++◌, length, drop, if◌then◌else◌}
+use Rattle.cols_spec.specs.Sets.{listed, connections}
 use Rattle.cols_spec.specs.Places.{find, load}
 use Rattle.out_records.specs.Records.{records}
 use Rattle.domain.specs.declared.Limits.{Limits}

@@ -1,6 +1,5 @@
 -- What requests about tokens do. The status in a confirm is the one after the change. `full` says that the token limit is reached.
-use Rattle.std.specs.Prelude.{ℕ, Bool, List, [], ◌∷◌, eqb}
-use Rattle.cols_spec.specs.Sets.{if◌then◌else◌}
+use Rattle.std.specs.Prelude.{ℕ, Bool, List, [], ◌∷◌, eqb, if◌then◌else◌}
 use Rattle.cols_spec.specs.Places.{At, Nowhere, find}
 use Rattle.codec_table.specs.Named.{Message, TGcf, TIcf, TVin, TVcf, TPin, TRcf, TTcf, successful, no_such_user, token_not_possessed}
 use Rattle.out_records.specs.Records.{Sent, to, tell}

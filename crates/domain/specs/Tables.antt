@@ -1,6 +1,6 @@
 -- The tables of the domain: who is where, which channels are in use, who has which token, and how a table changes as a whole. A table is the list
 -- of its places' ids, 0 for a free place, and the list of what stands there.
-use Rattle.std.specs.Prelude.{ℕ, Bool, true, false, not, ◌&&◌, List, [], ◌∷◌, map, eqb, leb, get_or, set, replicate}
+use Rattle.std.specs.Prelude.{ℕ, Bool, true, false, not, ◌&&◌, List, [], ◌∷◌, map, eqb, leb, get_or, set, replicate, if◌then◌else◌}
 use Rattle.std.proofs.Math.Bool.{So}
 use Rattle.std.proofs.Math.Option.{Option, none, some}
 use Rattle.domain.specs.declared.Limits.{Limits}
@@ -11,7 +11,7 @@ use Rattle.domain.specs.declared.token.Holding.{Holding}
 use Rattle.domain.specs.declared.token.Holding.TheVariants.{Free, Grabbed, Inhibited, Giving, Given}
 use Rattle.domain.specs.declared.token.Token.{Token}
 use Rattle.domain.specs.Cells.{no_channel, no_token, kind, with_marks, hold, token_of}
-use Rattle.cols_spec.specs.Sets.{if◌then◌else◌, any, below, has, those, with, connections, seats}
+use Rattle.cols_spec.specs.Sets.{any, below, has, those, with, connections, seats}
 use Rattle.cols_spec.specs.Places.{Place, At, Nowhere, find, found, spare, seat, used, store, load, sweep, unused}
 
 pub record Users : Type 0 where

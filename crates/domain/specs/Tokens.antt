@@ -1,11 +1,11 @@
 -- One token: what a request by the user at place u makes of its state, and its status for that user. Users are named by their places.
-use Rattle.std.specs.Prelude.{ℕ, Bool, true, false, eqb}
+use Rattle.std.specs.Prelude.{ℕ, Bool, true, false, eqb, if◌then◌else◌}
 use Rattle.domain.specs.declared.token.Holding.{Holding}
 use Rattle.domain.specs.declared.token.Holding.TheVariants.{Free, Grabbed, Inhibited, Giving, Given}
 use Rattle.domain.specs.declared.token.Turned.{Turned as CodeTurned}
 use Rattle.domain.specs.declared.token.Turned.TheVariants.{Fails, Turns}
 use Rattle.domain.specs.Numbers.{result_number}
-use Rattle.cols_spec.specs.Sets.{if◌then◌else◌, has, with, without, minus, only, seats}
+use Rattle.cols_spec.specs.Sets.{has, with, without, minus, only, seats}
 use Rattle.codec_table.specs.Named.{token_not_available, token_not_possessed, too_many_tokens}
 use Rattle.codec_table.specs.Named.{not_in_use, self_grabbed, other_grabbed, self_inhibited, other_inhibited, self_recipient, self_giving, other_giving}
 

@@ -1,12 +1,13 @@
 -- Demand 3 from an image: what the image says agrees with the tables that say the same, and so the four claims hold of every run from there. A fresh domain is the
 -- case of an image that says nothing. Assumes nothing.
+use Rattle.std.specs.Prelude.{if◌then◌else◌}
 use mathlib.Core.Path.{◌≡◌, refl, sym, ap, ap₂, ◌∙◌}
 use mathlib.Core.Bool.{Bool, true, false}
 use Prim.Native.Nat.{ℕ}
 use lib.Dec.{eqb}
 use borrow.Author.Tests.{ne_eqb}
 use Rattle.cols_spec.specs.Places.{Place, At, Nowhere, find}
-use Rattle.cols_spec.specs.Sets.{if◌then◌else◌, has, member}
+use Rattle.cols_spec.specs.Sets.{has, member}
 use Rattle.cols_spec.proofs.Rows.{At≢Nowhere, same_place}
 use Rattle.domain.specs.declared.Limits.{Limits}
 use Rattle.domain.specs.declared.token.Holding.{Holding}

@@ -1,9 +1,9 @@
 -- History that begins with an image (T-02): its users count as attached, holders as by grab (grabbed, giving) or inhibit, offers as open; its marks and admissions
 -- count as made there. Read from the image alone.
-use Rattle.std.specs.Prelude.{ℕ, ◌≡◌, Bool, false, List, eqb}
+use Rattle.std.specs.Prelude.{ℕ, ◌≡◌, Bool, false, List, eqb, if◌then◌else◌}
 use Rattle.std.proofs.Math.Bool.{So}
 use Rattle.std.proofs.Math.Option.{Option, none, some}
-use Rattle.cols_spec.specs.Sets.{if◌then◌else◌, all, has, member}
+use Rattle.cols_spec.specs.Sets.{all, has, member}
 use Rattle.codec_table.specs.Named.{Message}
 use Rattle.domain.specs.Tables.{Domain}
 use Rattle.domain.specs.Good.{Good}

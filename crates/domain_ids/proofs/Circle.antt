@@ -1,5 +1,6 @@
 -- The circle of ids 1001 to 65535. Between two grants of one id lie at least 64,407 others; where at most 128 ids are in use, the search finds a free one. Of the
 -- 64,534 other ids of a round each was handed out since, or was in use all the while, and those are at most 127. Assumes nothing.
+use Rattle.std.specs.Prelude.{if◌then◌else◌}
 use mathlib.Core.Path.{◌≡◌, refl, sym, ap, ap₂, ◌∙◌}
 use mathlib.Core.Bool.{Bool, true, false, ◌&&◌}
 use mathlib.Core.List.{[]}
@@ -8,7 +9,7 @@ use native.Mathlib.Nat.{add-suc, add-zero}
 use native.Mathlib.Omega.{arith}
 use lib.Dec.{eqb, ltb}
 use borrow.Author.Tests.{eqb-true, lt-ltb, ltb-true, ltb-false}
-use Rattle.cols_spec.specs.Sets.{if◌then◌else◌, keep}
+use Rattle.cols_spec.specs.Sets.{keep}
 use Rattle.cols_spec.proofs.Bools.{or_elim}
 use Rattle.domain_ids.specs.Rolling.{next_id, Reaches, stops, passes, search_from, how_many, SearchFinds, Since, just_now, freed, another, far_apart}
 use Rattle.domain.proofs.holders.Counting.{count_to, count_upto}

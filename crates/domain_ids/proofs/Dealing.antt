@@ -1,4 +1,5 @@
 -- What an event does with the new id: it hands out nothing and brings no id into use, or it hands out this id and brings no other into use. Assumes nothing.
+use Rattle.std.specs.Prelude.{if◌then◌else◌}
 use mathlib.Core.Path.{◌≡◌, refl, sym, ap, ◌∙◌}
 use mathlib.Core.Bool.{Bool, true, false, not, ◌||◌, false≢true, or-true}
 use mathlib.Core.List.{List, [], ◌∷◌, ◌++◌}
@@ -9,7 +10,7 @@ use lib.Dec.{eqb, ltb}
 use lib.ListN.{length, get_or, set, length-set}
 use lib.Seq.{get_or-set_same, get_or-set_other}
 use borrow.Author.Tests.{eq-eqb, ne_eqb, eqb-true, eqb-false, ltb-false, not-true}
-use Rattle.cols_spec.specs.Sets.{if◌then◌else◌, all, any, null, each, has}
+use Rattle.cols_spec.specs.Sets.{all, any, null, each, has}
 use Rattle.cols_spec.specs.Places.{Place, At, Nowhere, find, found, spare, store}
 use Rattle.cols_spec.proofs.Bools.{and_parts, or_elim}
 use Rattle.cols_spec.proofs.Rows.{find_holds, not_there}

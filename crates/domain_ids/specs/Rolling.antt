@@ -1,8 +1,8 @@
 -- New ids in a circle (T-04): the search starts at the id that follows the last one handed out, 65535 is followed by 1001, and ids in use are passed over. Users,
 -- assigned and private channels share the ids. Between two grants of one id lie at least 64,407 others.
-use Rattle.std.specs.Prelude.{ℕ, zero, suc, ◌≤◌, ◌≡◌, Bool, true, false, ◌&&◌, ◌||◌, List, [], ◌∷◌, ◌++◌, eqb, ltb, length}
+use Rattle.std.specs.Prelude.{ℕ, zero, suc, ◌≤◌, ◌≡◌, Bool, true, false, ◌&&◌, ◌||◌, List, [], ◌∷◌, ◌++◌, eqb, ltb, length, if◌then◌else◌}
 use Rattle.std.proofs.Math.Bool.{So}
-use Rattle.cols_spec.specs.Sets.{if◌then◌else◌, keep, all, each, below}
+use Rattle.cols_spec.specs.Sets.{keep, all, each, below}
 use Rattle.cols_spec.specs.Places.{find, found}
 use Rattle.out_records.specs.Records.{Sent, to}
 use Rattle.domain.specs.declared.Limits.{Limits}

@@ -1,7 +1,7 @@
 -- The tables as lists, each ascending by id: what an image holds, before it is octets (T-02). They are equal exactly where the tables say the same.
-use Rattle.std.specs.Prelude.{ℕ, ◌≡◌, List, [], ◌∷◌, eqb}
+use Rattle.std.specs.Prelude.{ℕ, ◌≡◌, List, [], ◌∷◌, eqb, if◌then◌else◌}
 use Rattle.std.proofs.Math.Option.{Option, none, some}
-use Rattle.cols_spec.specs.Sets.{if◌then◌else◌, each}
+use Rattle.cols_spec.specs.Sets.{each}
 use Rattle.cols_spec.specs.Places.{in_order}
 use Rattle.domain.specs.declared.Limits.{Limits}
 use Rattle.domain.specs.Tables.{Domain}

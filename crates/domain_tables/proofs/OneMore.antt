@@ -1,10 +1,11 @@
 -- A list of ids with one more at its end: those kept of it, each once. Assumes nothing.
+use Rattle.std.specs.Prelude.{if◌then◌else◌}
 use mathlib.Core.Path.{◌≡◌, refl, sym, ap, ◌∙◌}
 use mathlib.Core.Bool.{Bool, true, false, not, ◌&&◌, ◌||◌}
 use mathlib.Core.List.{List, [], ◌∷◌, ◌++◌}
 use Prim.Native.Nat.{ℕ}
 use lib.Dec.{eqb}
-use Rattle.cols_spec.specs.Sets.{if◌then◌else◌, keep, any, member, firsts, once}
+use Rattle.cols_spec.specs.Sets.{keep, any, member, firsts, once}
 use Rattle.cols_spec.proofs.Turns.{keep_append}
 use Rattle.cols_spec.proofs.Members.{member_keep, member_once}
 

@@ -1,4 +1,5 @@
 -- The number that a search answers, as a place again.
+use Rattle.std.specs.Prelude.{if◌then◌else◌}
 use mathlib.Core.Path.{◌≡◌, refl, sym}
 use mathlib.Core.Bool.{Bool, true, false}
 use mathlib.Core.List.{List}
@@ -6,7 +7,6 @@ use Prim.Native.Nat.{ℕ, ◌≤◌, ◌<◌}
 use lib.Dec.{ltb}
 use lib.ListN.{length}
 use borrow.Author.Tests.{ltb-true, ltb-false, lt-ltb, le-ltb}
-use Rattle.cols_spec.specs.Sets.{if◌then◌else◌}
 use Rattle.cols_spec.specs.Places.{Place, At, Nowhere, find, spare, number}
 use Rattle.cols_spec.proofs.Answers.{find_at, find-nowhere, spare-at, spare-nowhere}
 use Rattle.domain_tables.specs.Numbered.{place}

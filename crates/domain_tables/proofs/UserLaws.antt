@@ -1,4 +1,5 @@
 -- Users: who is attached where, and the connections of a set of users.
+use Rattle.std.specs.Prelude.{if◌then◌else◌}
 use mathlib.Core.Path.{◌≡◌, refl, sym, ap, ap₂, ◌∙◌}
 use mathlib.Core.Bool.{Bool, true, false, ◌&&◌, ◌||◌, and-true, or-false, false≢true}
 use mathlib.Core.List.{List, [], ◌∷◌}
@@ -10,7 +11,7 @@ use lib.Count.{count_trailing_zeros, trailing_of_zero}
 use lib.Dec.{eqb, ltb}
 use lib.ListN.{length, get_or}
 use borrow.Author.Tests.{eq-eqb, ne_eqb, eqb-true, eqb-false, ltb-true, ltb-false}
-use Rattle.cols_spec.specs.Sets.{if◌then◌else◌, any, upto, below, has, with, without, connections, seats, NextIn}
+use Rattle.cols_spec.specs.Sets.{any, upto, below, has, with, without, connections, seats, NextIn}
 use Rattle.cols_spec.specs.Places.{Place, At, Nowhere, find, number}
 use Rattle.cols_spec.proofs.Rows.{get_d_any}
 use Rattle.cols_spec.proofs.Digits.{has_high, has_with, has_without, is_those, those_lt}

@@ -1,6 +1,5 @@
 -- A place answered as a number, and a token's cell stored where its place is known.
-use Rattle.std.specs.Prelude.{ℕ, eqb, ltb}
-use Rattle.cols_spec.specs.Sets.{if◌then◌else◌}
+use Rattle.std.specs.Prelude.{ℕ, eqb, ltb, if◌then◌else◌}
 use Rattle.cols_spec.specs.Places.{Place, At, Nowhere, found, spare, store}
 use Rattle.domain.specs.declared.token.Token.{Token}
 use Rattle.domain.specs.Tables.{Tokens}

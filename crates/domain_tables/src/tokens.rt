@@ -1,6 +1,5 @@
 // Tokens: the id and state of each place.
-ghost use Rattle.std.specs.Prelude.{◌≡◌};
-ghost use Rattle.cols_spec.specs.Sets.{if◌then◌else◌};
+ghost use Rattle.std.specs.Prelude.{◌≡◌, if◌then◌else◌};
 ghost use Rattle.cols_spec.specs.Places.{store as store_at, load, found, spare};
 ghost use Rattle.domain_tables.specs.Numbered.{place, set_at};
 ghost use Rattle.domain.specs.Cells.{hold, no_token};

@@ -1,4 +1,5 @@
 -- The places that changed, one after the other, while the columns before are taken over. Assumes nothing.
+use Rattle.std.specs.Prelude.{if◌then◌else◌}
 use Prim.Native.Nat.{ℕ, ◌+◌, ◌≤◌, ◌<◌}
 use mathlib.Core.Path.{◌≡◌, refl, sym, ap, ap₂, ◌∙◌}
 use mathlib.Core.Bool.{Bool}
@@ -7,7 +8,6 @@ use native.Mathlib.Nat.{add-zero}
 use native.Mathlib.Omega.{arith}
 use lib.ListN.{length, take, drop, get_or, set, take-append-drop}
 use lib.Seq.{drop-drop, get_or-drop, take-set-le, take-set-lt, drop-set-lt, drop-set-add}
-use Rattle.cols_spec.specs.Sets.{if◌then◌else◌}
 use Rattle.domain.specs.Tables.{Tokens, tokens_of}
 use Rattle.domain.proofs.CellLaws.{token_at}
 use Rattle.explain_tokens.specs.Holders.{picked_from, differ, changed_at, changed_ids}

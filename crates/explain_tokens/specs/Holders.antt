@@ -1,6 +1,6 @@
 -- Who holds or is offered a token, in words, as a list of texts.
-use Rattle.std.specs.Prelude.{ℕ, suc, Bool, not, ◌||◌, List, [], ◌∷◌, ◌++◌, eqb, get_or}
-use Rattle.cols_spec.specs.Sets.{if◌then◌else◌, has}
+use Rattle.std.specs.Prelude.{ℕ, suc, Bool, not, ◌||◌, List, [], ◌∷◌, ◌++◌, eqb, get_or, if◌then◌else◌}
+use Rattle.cols_spec.specs.Sets.{has}
 use Rattle.cols_spec.specs.Places.{used, in_order}
 use Rattle.domain.specs.declared.token.Holding.{Holding}
 use Rattle.domain.specs.declared.token.Holding.TheVariants.{Free, Grabbed, Inhibited, Giving, Given}

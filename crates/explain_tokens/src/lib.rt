@@ -1,6 +1,6 @@
 // Who holds or is offered which token: the changes that a frame made, and the table.
-ghost use Rattle.std.specs.Prelude.{◌≡◌, ◌∷◌, ◌<◌, get_or, set};
-ghost use Rattle.cols_spec.specs.Sets.{if◌then◌else◌, has};
+ghost use Rattle.std.specs.Prelude.{◌≡◌, ◌∷◌, ◌<◌, get_or, set, if◌then◌else◌};
+ghost use Rattle.cols_spec.specs.Sets.{has};
 ghost use Rattle.cols_spec.specs.Places.{in_order};
 ghost use Rattle.domain.specs.Lent.{tokens_before};
 ghost use Rattle.trace_io.specs.Lines.{Says};

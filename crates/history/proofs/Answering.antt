@@ -1,4 +1,5 @@
 -- Demand 1 of every call: replies, tables, what is sent, and the room; and that 17,200 octets are room enough in every run. Assumes nothing.
+use Rattle.std.specs.Prelude.{if◌then◌else◌}
 use mathlib.Core.Path.{◌≡◌, refl, ap, ◌∙◌}
 use mathlib.Core.Bool.{Bool, true, false, not, ◌||◌}
 use mathlib.Core.List.{List, [], ◌++◌}
@@ -8,7 +9,7 @@ use borrow.Author.Tests.{ltb-true, ltb-false}
 use lib.Dec.{ltb}
 use lib.ListN.{length, drop}
 use lib.Seq.{take-append_seam, drop-append_seam}
-use Rattle.cols_spec.specs.Sets.{if◌then◌else◌, has}
+use Rattle.cols_spec.specs.Sets.{has}
 use Rattle.codec_table.specs.Named.{Message}
 use Rattle.out_records.specs.Records.{records}
 use Rattle.domain.specs.Tables.{Domain, grant}

@@ -1,5 +1,6 @@
 -- What is understood of octets is a refusal, or what is heard; so the events that are served come with their fields in range, and where the reply
 -- is 0 they are what is read. Assumes nothing.
+use Rattle.std.specs.Prelude.{if◌then◌else◌}
 use mathlib.Core.Path.{◌≡◌, refl, ap}
 use mathlib.Core.Bool.{Bool, true, false, not, ◌||◌, So}
 use mathlib.Core.List.{List}
@@ -7,7 +8,7 @@ use Prim.Native.Nat.{ℕ, ◌<◌}
 use native.Mathlib.Omega.{arith}
 use lib.Dec.{ltb}
 use lib.ListN.{length}
-use Rattle.cols_spec.specs.Sets.{if◌then◌else◌, has}
+use Rattle.cols_spec.specs.Sets.{has}
 use Rattle.codec_table.specs.Messages.{may_go_up, is_served}
 use Rattle.codec_table.specs.Codec.{Outcome, ok, refuse, sized}
 use Rattle.codec_table.specs.Named.{Message, heard}

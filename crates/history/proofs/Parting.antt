@@ -1,11 +1,12 @@
 -- What leaving sends is read back: DUin, CDin and TVcf from sound tables. Assumes nothing.
+use Rattle.std.specs.Prelude.{if◌then◌else◌}
 use mathlib.Core.Path.{◌≡◌, refl}
 use mathlib.Core.Bool.{not, ◌&&◌}
 use mathlib.Core.List.{List, [], ◌++◌}
 use Prim.Native.Nat.{ℕ, ◌≤◌}
 use native.Mathlib.Omega.{arith}
 use lib.ListN.{length, get_or}
-use Rattle.cols_spec.specs.Sets.{if◌then◌else◌, null, each, once, has, with, meet, connections, seats}
+use Rattle.cols_spec.specs.Sets.{null, each, once, has, with, meet, connections, seats}
 use Rattle.cols_spec.specs.Places.{Place, At, Nowhere, find, in_order, load}
 use Rattle.cols_spec.proofs.Order.{in_order_length}
 use Rattle.cols_spec.proofs.Rows.{find_holds}

@@ -1,4 +1,5 @@
 -- Which messages are read back, each by the ranges of its fields; and lists of records of such. Assumes nothing.
+use Rattle.std.specs.Prelude.{if◌then◌else◌}
 use mathlib.Core.Path.{◌≡◌, refl}
 use mathlib.Core.Bool.{Bool, true, false}
 use mathlib.Core.List.{List, [], ◌∷◌, ◌++◌, map}
@@ -6,7 +7,7 @@ use mathlib.Core.Option.{Option, none, some}
 use Prim.Native.Nat.{ℕ, zero, suc, ◌≤◌, zero-le}
 use native.Mathlib.Omega.{arith}
 use lib.ListN.{length, take, length-take}
-use Rattle.cols_spec.specs.Sets.{if◌then◌else◌, keep, each, listed, connections}
+use Rattle.cols_spec.specs.Sets.{keep, each, listed, connections}
 use Rattle.codec_octets.specs.Octets.{Bytes, an_octet, an_id}
 use Rattle.codec_table.specs.Limits.{message_limit}
 use Rattle.codec_table.specs.Named.{Message, RJum, AUcf, DUin, CJcf, CCcf, CDin, CAin, CEin, TGcf, TIcf, TVcf, TRcf, TVin, TPin, TTcf}

@@ -1,10 +1,10 @@
 -- A run of the provider from a domain just made goes with the machine's run over the same events, and its tables are good. Assumes nothing.
+use Rattle.std.specs.Prelude.{if◌then◌else◌}
 use mathlib.Core.Path.{◌≡◌, refl, sym, ap, ◌∙◌}
 use mathlib.Core.Bool.{Bool, true, false, So}
 use mathlib.Core.List.{List, [], map}
 use Prim.Native.Nat.{ℕ}
 use native.Mathlib.Omega.{arith}
-use Rattle.cols_spec.specs.Sets.{if◌then◌else◌}
 use Rattle.domain.specs.declared.Limits.{Limits}
 use Rattle.domain.specs.Tables.{Domain, fresh, in_range}
 use Rattle.domain.specs.Good.{Good}

@@ -1,4 +1,5 @@
 -- What a request sends that names users by their places is read back: sound tables have ids in their ranges. Assumes nothing.
+use Rattle.std.specs.Prelude.{if◌then◌else◌}
 use mathlib.Core.Path.{◌≡◌, refl}
 use mathlib.Core.Bool.{Bool, true, false≢true}
 use mathlib.Core.List.{List}
@@ -6,7 +7,7 @@ use Prim.Native.Nat.{ℕ, ◌≤◌}
 use native.Mathlib.Omega.{arith}
 use lib.Dec.{eqb}
 use lib.ListN.{length}
-use Rattle.cols_spec.specs.Sets.{if◌then◌else◌, keep, null, each, below, once, connections}
+use Rattle.cols_spec.specs.Sets.{keep, null, each, below, once, connections}
 use Rattle.cols_spec.specs.Places.{Place, At, Nowhere, find, found}
 use Rattle.cols_spec.proofs.Order.{keep_le}
 use Rattle.cols_spec.proofs.Rows.{find_holds}

@@ -1,4 +1,5 @@
 -- What a request that needs no more than its own fields sends is read back: results, statuses and ids are in their ranges. Assumes nothing.
+use Rattle.std.specs.Prelude.{if◌then◌else◌}
 use mathlib.Core.Path.{◌≡◌, refl}
 use mathlib.Core.Bool.{Bool, true, false, ◌||◌}
 use mathlib.Core.List.{List}
@@ -6,7 +7,7 @@ use mathlib.Core.Option.{none, some}
 use Prim.Native.Nat.{ℕ, zero, suc, ◌≤◌, zero-le}
 use native.Mathlib.Omega.{arith}
 use lib.Dec.{eqb, ltb}
-use Rattle.cols_spec.specs.Sets.{if◌then◌else◌, any, has, with, only, seats}
+use Rattle.cols_spec.specs.Sets.{any, has, with, only, seats}
 use Rattle.cols_spec.specs.Places.{Place, At, Nowhere, find}
 use Rattle.codec_table.specs.Named.{CDin, TVcf, TPin}
 use Rattle.codec_table.proofs.NamedLaws.{User, Channel, Token}

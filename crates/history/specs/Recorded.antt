@@ -1,6 +1,5 @@
 -- What a person can record of a run: each call with its octets, the reply, and the octets sent; and how that is read. No table is looked at.
-use Rattle.std.specs.Prelude.{ℕ, zero, suc, ◌+◌, ◌-◌, ◌*◌, Bool, ◌&&◌, List, [], ◌∷◌, ◌++◌, eqb, leb, length, get_or, take, drop}
-use Rattle.cols_spec.specs.Sets.{if◌then◌else◌}
+use Rattle.std.specs.Prelude.{ℕ, zero, suc, ◌+◌, ◌-◌, ◌*◌, Bool, ◌&&◌, List, [], ◌∷◌, ◌++◌, eqb, leb, length, get_or, take, drop, if◌then◌else◌}
 use Rattle.codec_table.specs.Codec.{Outcome, ok, refuse}
 use Rattle.codec_table.specs.Named.{Message, heard}
 use Rattle.out_records.specs.Records.{Sent, to}

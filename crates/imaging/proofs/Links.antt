@@ -1,4 +1,5 @@
 -- A mask of connections and the list of its connections, ascending: each gives the other. Assumes nothing.
+use Rattle.std.specs.Prelude.{if◌then◌else◌}
 use mathlib.Core.Path.{◌≡◌, refl, sym, ap, ◌∙◌}
 use mathlib.Core.Bool.{Bool, true, false, ◌&&◌, false≢true, and-true, or-true}
 use mathlib.Core.List.{List, [], ◌∷◌}
@@ -6,7 +7,7 @@ use Prim.Native.Nat.{ℕ, ◌<◌, ◌≤◌, ◌^◌}
 use native.Mathlib.Omega.{arith}
 use lib.Dec.{eqb, leb, ltb}
 use borrow.Author.Tests.{eq-eqb, eqb-true, leb-true}
-use Rattle.cols_spec.specs.Sets.{if◌then◌else◌, keep, any, all, upto, below, has, those, listed, member}
+use Rattle.cols_spec.specs.Sets.{keep, any, all, upto, below, has, those, listed, member}
 use Rattle.cols_spec.proofs.Bools.{and_parts, and_both, or_elim}
 use Rattle.cols_spec.proofs.Below.{any_hit}
 use Rattle.cols_spec.proofs.Digits.{has_those, those_lt, mask_ext}

@@ -1,4 +1,5 @@
 -- How long an image is: at most 17,692 octets. Assumes nothing.
+use Rattle.std.specs.Prelude.{if◌then◌else◌}
 use mathlib.Core.Path.{◌≡◌, refl, ap, ◌∙◌}
 use mathlib.Core.Bool.{Bool, true, false, ◌&&◌, false≢true, or-true}
 use mathlib.Core.List.{List, [], ◌∷◌, ◌++◌}
@@ -10,7 +11,7 @@ use lib.Dec.{eqb, ltb}
 use lib.ListN.{length, get_or, length-append}
 use borrow.Author.Tests.{eq-eqb, eqb-true, eqb-false, lt-ltb}
 use Rattle.cols_spec.specs.Places.{At, find, in_order}
-use Rattle.cols_spec.specs.Sets.{if◌then◌else◌, keep, any, each, has, member, listed, below, upto}
+use Rattle.cols_spec.specs.Sets.{keep, any, each, has, member, listed, below, upto}
 use Rattle.cols_spec.proofs.Answers.{found-somewhere}
 use Rattle.cols_spec.proofs.Bools.{and_parts, and_both, or_elim}
 use Rattle.cols_spec.proofs.Members.{member_keep, member_at}

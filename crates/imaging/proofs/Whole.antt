@@ -1,4 +1,5 @@
 -- Reading takes exactly the images of good tables; equal images are those of tables that say the same; and what the replies are. Assumes nothing.
+use Rattle.std.specs.Prelude.{if◌then◌else◌}
 use mathlib.Core.Path.{◌≡◌, refl, sym, ap, ap₂, ◌∙◌}
 use mathlib.Core.Bool.{Bool, true, false, ◌&&◌, So, true≢false, and-false}
 use mathlib.Core.List.{List, [], ◌∷◌, ◌++◌, append-nil}
@@ -11,7 +12,6 @@ use lib.Seq.{take-append_seam, drop-append_seam}
 use borrow.Author.Tests.{eq-eqb, eqb-true, ltb-true, lt-ltb}
 use Rattle.codec_octets.specs.Octets.{Read, got, no, octet, octets_of, number, Bytes}
 use Rattle.codec_octets.proofs.OctetLaws.{bytes_behind, followed, needed}
-use Rattle.cols_spec.specs.Sets.{if◌then◌else◌}
 use Rattle.cols_spec.proofs.Bools.{some_is, none≢some}
 use Rattle.domain.specs.Tables.{Domain, in_range}
 use Rattle.domain.specs.Effects.{settled}

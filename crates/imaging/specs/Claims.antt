@@ -1,9 +1,8 @@
 -- T-02: what is claimed of images.
-use Rattle.std.specs.Prelude.{ℕ, ◌≤◌, ◌<◌, ◌≡◌, ◌↔◌, false, List, length, take, drop}
+use Rattle.std.specs.Prelude.{ℕ, ◌≤◌, ◌<◌, ◌≡◌, ◌↔◌, false, List, length, take, drop, if◌then◌else◌}
 use Rattle.std.proofs.Math.Bool.{So}
 use Rattle.std.proofs.Math.Option.{Option, none, some}
 use Rattle.codec_octets.specs.Octets.{Bytes}
-use Rattle.cols_spec.specs.Sets.{if◌then◌else◌}
 use Rattle.domain.specs.Effects.{Settled}
 use Rattle.domain.specs.Tables.{Domain}
 use Rattle.domain.specs.Good.{Good}

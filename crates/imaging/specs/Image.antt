@@ -1,8 +1,8 @@
 -- T-02, the image of the tables: "4 octets of length (what follows), version 1, then limits, open connections, users with their connections, channels and
 -- tokens, each list ascending by id, nothing spare". Numbers are big-endian.
-use Rattle.std.specs.Prelude.{ℕ, List, [], ◌∷◌, ◌++◌, ltb, length, drop}
+use Rattle.std.specs.Prelude.{ℕ, List, [], ◌∷◌, ◌++◌, ltb, length, drop, if◌then◌else◌}
 use Rattle.codec_octets.specs.Octets.{octets_of}
-use Rattle.cols_spec.specs.Sets.{if◌then◌else◌, each, listed, connections}
+use Rattle.cols_spec.specs.Sets.{each, listed, connections}
 use Rattle.domain.specs.declared.Limits.{Limits}
 use Rattle.domain.specs.Effects.{Settled, settled}
 use Rattle.domain.specs.Tables.{Domain}

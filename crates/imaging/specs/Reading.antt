@@ -1,8 +1,8 @@
 -- T-02, reading an image: part by part as it was written. A reading that fails does not say why: whatever is no image of good tables is refused alike, with 12.
-use Rattle.std.specs.Prelude.{ℕ, zero, suc, Bool, true, not, ◌&&◌, List, [], ◌∷◌, eqb, leb, length, get_or}
+use Rattle.std.specs.Prelude.{ℕ, zero, suc, Bool, true, not, ◌&&◌, List, [], ◌∷◌, eqb, leb, length, get_or, if◌then◌else◌}
 use Rattle.std.proofs.Math.Option.{Option, none, some}
 use Rattle.codec_octets.specs.Octets.{Read, got, no, Reader, ◌>>=◌, give, fail, need, octet, number}
-use Rattle.cols_spec.specs.Sets.{if◌then◌else◌, all, member, those, connections}
+use Rattle.cols_spec.specs.Sets.{all, member, those, connections}
 use Rattle.domain.specs.declared.Limits.{Limits}
 use Rattle.domain.specs.Tables.{in_range}
 use Rattle.domain.specs.Outcomes.{limited}

@@ -1,4 +1,5 @@
 -- Their records force the id: where a group's records are those of some free id, they are those of the id that is chosen. Assumes nothing.
+use Rattle.std.specs.Prelude.{if◌then◌else◌}
 use mathlib.Core.Path.{◌≡◌, refl, sym, ap, ◌∙◌}
 use mathlib.Core.Bool.{Bool, true, false}
 use mathlib.Core.List.Perm
@@ -8,7 +9,6 @@ use native.Mathlib.Omega.{arith}
 use borrow.Author.Tests.{le-ltb, ltb-true, ltb-false}
 use lib.Dec.{ltb}
 use lib.ListN.{length}
-use Rattle.cols_spec.specs.Sets.{if◌then◌else◌}
 use Rattle.codec_table.specs.Codec.{ok, decode}
 use Rattle.codec_table.specs.Named.{Message, fields}
 use Rattle.codec_table.proofs.NamedLaws.{User, heard_read}

@@ -1,4 +1,5 @@
 -- An event goes the same way whatever the new id is, or it hands the id out: then it sends one record, and the record names it. Assumes nothing.
+use Rattle.std.specs.Prelude.{if◌then◌else◌}
 use mathlib.Core.Path.{◌≡◌, refl, ap}
 use mathlib.Core.Bool.{Bool, true, false, not, ◌||◌, So}
 use mathlib.Core.List.{[], ◌∷◌}
@@ -7,7 +8,7 @@ use Prim.Native.Nat.{ℕ, ◌≤◌}
 use native.Mathlib.Omega.{arith}
 use lib.Dec.{eqb, ltb}
 use lib.ListN.{length}
-use Rattle.cols_spec.specs.Sets.{if◌then◌else◌, has}
+use Rattle.cols_spec.specs.Sets.{has}
 use Rattle.cols_spec.specs.Places.{Place, At, Nowhere, find}
 use Rattle.codec_table.specs.Messages.{entry, row}
 use Rattle.codec_table.specs.Codec.{octets_of_msg}

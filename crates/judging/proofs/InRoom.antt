@@ -1,4 +1,5 @@
 -- The judge over the octets of the room is the judge over the list of records. Assumes nothing.
+use Rattle.std.specs.Prelude.{if◌then◌else◌}
 use mathlib.Core.Path.{◌≡◌, refl, sym, ap, ◌∙◌}
 use mathlib.Core.Bool.{Bool, true, false, ◌&&◌}
 use mathlib.Core.List.{List, [], ◌∷◌, ◌++◌, map}
@@ -9,7 +10,7 @@ use borrow.Author.Tests.{le-leb, leb-true}
 use lib.Dec.{leb}
 use lib.ListN.{length, get_or, take, drop, set, length-append, length-set, length-drop, length-take, take-append-drop, get_or-append}
 use lib.Seq.{length-take-le, take-append-le, drop-append-le, drop_at, get_or-take, get_or-set_same, get_or-set_other, drop-set-lt}
-use Rattle.cols_spec.specs.Sets.{if◌then◌else◌, null}
+use Rattle.cols_spec.specs.Sets.{null}
 use Rattle.cols_spec.proofs.Bools.{and_parts, none≢some}
 use Rattle.out_records.specs.Records.{Sent, to, wire, record_of, octets, records}
 use Rattle.domain.specs.Tables.{Domain}

@@ -1,4 +1,5 @@
 -- Striking out a record: it leaves the others, and where it cannot be struck out it is not there. Assumes nothing.
+use Rattle.std.specs.Prelude.{if◌then◌else◌}
 use mathlib.Core.Path.{◌≡◌, refl, sym, ap, ◌∙◌}
 use mathlib.Core.Logic.Or
 use mathlib.Core.HLevel.{⊥_prop}
@@ -10,7 +11,6 @@ use Prim.Native.Nat.{ℕ, suc}
 use lib.Dec.{eqb}
 use lib.ListN.{length}
 use borrow.Author.Tests.{eqb-true, eq-eqb}
-use Rattle.cols_spec.specs.Sets.{if◌then◌else◌}
 use Rattle.cols_spec.proofs.Bools.{and_parts, and_both, none≢some}
 use Rattle.judging.specs.Traces.{Packet, on}
 use Rattle.judging.specs.Judge.{same_octets, same_packet, in_front, strike}

@@ -1,8 +1,8 @@
 -- The judge, as a program without a heap computes it: the tables, the records demanded by the event at hand that are not yet seen, the number of
 -- that event's frame and of the next frame.
-use Rattle.std.specs.Prelude.{ℕ, suc, Bool, true, false, ◌&&◌, List, [], ◌∷◌, eqb, get_or}
+use Rattle.std.specs.Prelude.{ℕ, suc, Bool, true, false, ◌&&◌, List, [], ◌∷◌, eqb, get_or, if◌then◌else◌}
 use Rattle.std.proofs.Math.Option.{Option, none, some}
-use Rattle.cols_spec.specs.Sets.{if◌then◌else◌, null}
+use Rattle.cols_spec.specs.Sets.{null}
 use Rattle.codec_table.specs.Codec.{Msg, Outcome as Read, ok, refuse, decode}
 use Rattle.domain.specs.declared.Limits.{Limits}
 use Rattle.domain.specs.Tables.{Channels, Domain, fresh, grant, free_id}

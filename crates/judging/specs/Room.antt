@@ -1,8 +1,8 @@
 -- The same judge with the demanded records as the answer's room holds them: octets, one record behind the other. A record that was seen is struck out
 -- by a 0 for its version. This is what the code computes.
-use Rattle.std.specs.Prelude.{ℕ, zero, suc, ◌+◌, Bool, ◌&&◌, List, [], ◌∷◌, ◌++◌, eqb, leb, length, get_or, take, drop, set}
+use Rattle.std.specs.Prelude.{ℕ, zero, suc, ◌+◌, Bool, ◌&&◌, List, [], ◌∷◌, ◌++◌, eqb, leb, length, get_or, take, drop, set, if◌then◌else◌}
 use Rattle.std.proofs.Math.Option.{Option, none, some}
-use Rattle.cols_spec.specs.Sets.{if◌then◌else◌, null}
+use Rattle.cols_spec.specs.Sets.{null}
 use Rattle.out_records.specs.Records.{records}
 use Rattle.domain.specs.Tables.{Domain}
 use Rattle.history.specs.Recorded.{size, inside}

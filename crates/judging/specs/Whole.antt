@@ -1,9 +1,8 @@
 -- A trace in memory: limits, then frames, then the judge. `front` is what stands at the front of octets (frames, Frames; with T-10 kind 3 is a good
 -- frame with any octets, and 11 begins at kind 4).
-use Rattle.std.specs.Prelude.{ℕ, zero, suc, ◌-◌, ◌≡◌, ◌↔◌, false, List, [], eqb, length, take, drop}
+use Rattle.std.specs.Prelude.{ℕ, zero, suc, ◌-◌, ◌≡◌, ◌↔◌, false, List, [], eqb, length, take, drop, if◌then◌else◌}
 use Rattle.std.proofs.Math.Bool.{So}
 use Rattle.std.proofs.Math.Option.{Option, none, some}
-use Rattle.cols_spec.specs.Sets.{if◌then◌else◌}
 use Rattle.codec_octets.specs.Octets.{Bytes}
 use Rattle.trace_frames.specs.Frames.{Front, over, frame, refused}
 use Rattle.domain.specs.declared.Limits.{Limits}

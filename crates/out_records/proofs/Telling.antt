@@ -1,4 +1,5 @@
 -- A message to each connection of a mask. Assumes nothing.
+use Rattle.std.specs.Prelude.{if◌then◌else◌}
 use mathlib.Core.Path.{◌≡◌, refl, sym, ap, ap₂, ◌∙◌}
 use mathlib.Core.Bool.{Bool, true, false}
 use mathlib.Core.List.{List, [], ◌∷◌, ◌++◌, map, append-nil, append_assoc}
@@ -9,7 +10,7 @@ use native.Mathlib.Omega.{arith}
 use lib.Dec.{ltb}
 use lib.ListN.{length, length-append}
 use borrow.Author.Tests.{ltb-true, ltb-false}
-use Rattle.cols_spec.specs.Sets.{if◌then◌else◌, keep, each, upto, below, has, listed, connections, NextIn}
+use Rattle.cols_spec.specs.Sets.{keep, each, upto, below, has, listed, connections, NextIn}
 use Rattle.cols_spec.proofs.Nexts.{next_behind, next_keeps}
 use Rattle.codec_table.specs.Limits.{message_limit}
 use Rattle.codec_table.specs.Named.{Message}

@@ -1,8 +1,8 @@
 -- Octets into an answer's room: they are laid over what stands there; where there is no room nothing changes, and all of them are counted.
-use Rattle.std.specs.Prelude.{ℕ, ◌+◌, ◌-◌, Bool, ◌&&◌, ◌≡◌, List, [], ◌∷◌, ◌++◌, leb, length}
+use Rattle.std.specs.Prelude.{ℕ, ◌+◌, ◌-◌, Bool, ◌&&◌, ◌≡◌, List, [], ◌∷◌, ◌++◌, leb, length, if◌then◌else◌}
 use Rattle.std.proofs.lemmas.List.Edits.{sets}
 use Rattle.codec_table.specs.Limits.{list_limit, message_limit}
-use Rattle.cols_spec.specs.Sets.{if◌then◌else◌, has, below, each, connections}
+use Rattle.cols_spec.specs.Sets.{has, below, each, connections}
 use Rattle.out_records.specs.Records.{two, record_of}
 
 -- the octets `os` are put into `s` from place `at`, which gives `t`; `n` is the place behind them, whether they fit or not

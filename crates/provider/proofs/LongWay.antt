@@ -1,11 +1,12 @@
 -- An event that goes the long way, on an open connection: a loss, or a message that is not one of a few ids. Assumes nothing.
+use Rattle.std.specs.Prelude.{if◌then◌else◌}
 use mathlib.Core.Path.{◌≡◌, refl, ◌∙◌}
 use mathlib.Core.Bool.{Bool, true, false, not, ◌||◌}
 use mathlib.Core.List.{List}
 use Prim.Native.Nat.{ℕ}
 use lib.Dec.{ltb}
 use lib.ListN.{take}
-use Rattle.cols_spec.specs.Sets.{if◌then◌else◌, has}
+use Rattle.cols_spec.specs.Sets.{has}
 use Rattle.codec_read_fast.specs.Shortly.{few_ids, NoneRead}
 use Rattle.domain.specs.Numbers.{reply_number}
 use Rattle.domain.specs.Tables.{Domain, grant}

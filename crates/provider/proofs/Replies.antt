@@ -1,5 +1,6 @@
 -- Of every event, in any tables and any room: the reply is a listed one; replies 1 to 9 leave the tables unchanged; what is sent with them is
 -- nothing, or with 5 and 6 the one RJum; 9 exactly when the records to send exceed the room. Assumes nothing.
+use Rattle.std.specs.Prelude.{if◌then◌else◌}
 use mathlib.Core.Path.{◌≡◌, refl, sym, ap, ◌∙◌}
 use mathlib.Core.Bool.{Bool, true, false, not, ◌&&◌, ◌||◌}
 use mathlib.Core.List.{List, [], ◌∷◌}
@@ -9,7 +10,7 @@ use native.Mathlib.Omega.{arith}
 use borrow.Author.Tests.{lt-ltb, le-ltb, ltb-true, ltb-false}
 use lib.Dec.{eqb, ltb}
 use lib.ListN.{length}
-use Rattle.cols_spec.specs.Sets.{if◌then◌else◌, has, with, connections}
+use Rattle.cols_spec.specs.Sets.{has, with, connections}
 use Rattle.codec_table.specs.Messages.{may_go_up, is_served}
 use Rattle.codec_table.specs.Codec.{Msg, Outcome as Read, ok, refuse, sized, decode}
 use Rattle.codec_table.specs.Named.{Message, named, called, heard_as, heard}

@@ -1,4 +1,5 @@
 -- A room of 17,200 octets never meets 9. Assumes nothing.
+use Rattle.std.specs.Prelude.{if◌then◌else◌}
 use mathlib.Core.Path.{◌≡◌, refl, sym, ap, ◌∙◌}
 use mathlib.Core.Bool.{Bool, true, false, not, ◌||◌}
 use mathlib.Core.List.{List, [], ◌∷◌}
@@ -8,7 +9,7 @@ use native.Mathlib.Omega.{arith}
 use borrow.Author.Tests.{le-ltb}
 use lib.Dec.{eqb, ltb}
 use lib.ListN.{length, take, length-take}
-use Rattle.cols_spec.specs.Sets.{if◌then◌else◌, keep, any, null, each, upto, below, member, firsts, once, has, with, connections, seats}
+use Rattle.cols_spec.specs.Sets.{keep, any, null, each, upto, below, member, firsts, once, has, with, connections, seats}
 use Rattle.cols_spec.specs.Places.{Place, At, Nowhere, find, found, in_order}
 use Rattle.cols_spec.proofs.Order.{keep_le, in_order_length}
 use Rattle.codec_octets.specs.Octets.{Bytes}

@@ -1,8 +1,8 @@
 // The provider: every event on every connection, with any octets and any room for answers. The tables are lent as columns of numbers; any
 // contents are taken.
 
-ghost use Rattle.std.specs.Prelude.{◌≡◌, true, false, not, ◌||◌, ltb};
-ghost use Rattle.cols_spec.specs.Sets.{if◌then◌else◌, has as has_in};
+ghost use Rattle.std.specs.Prelude.{◌≡◌, true, false, not, ◌||◌, ltb, if◌then◌else◌};
+ghost use Rattle.cols_spec.specs.Sets.{has as has_in};
 ghost use Rattle.codec_read_fast.specs.Shortly.{few_ids, NoneRead};
 ghost use Rattle.domain.specs.declared.Limits.{Limits};
 ghost use Rattle.domain.specs.Lent.{domain_after, domain_before};

@@ -1,4 +1,5 @@
 -- AUrq and CJrq by cases: what each way through the code has shown is what the request does. Assumes nothing.
+use Rattle.std.specs.Prelude.{if◌then◌else◌}
 use mathlib.Core.Path.{◌≡◌, refl, sym, ap, ◌∙◌}
 use mathlib.Core.Bool.{Bool, true, false}
 use mathlib.Core.List.{List, [], ◌∷◌}
@@ -8,7 +9,7 @@ use native.Mathlib.Omega.{arith}
 use borrow.Author.Tests.{lt-ltb, le-ltb, eq-eqb, ne_eqb}
 use lib.Dec.{eqb}
 use lib.ListN.{length, get_or, set}
-use Rattle.cols_spec.specs.Sets.{if◌then◌else◌, with, only, connections}
+use Rattle.cols_spec.specs.Sets.{with, only, connections}
 use Rattle.cols_spec.specs.Places.{Place, At, Nowhere, find}
 use Rattle.codec_table.specs.Named.{Message, AUcf, CJcf, successful, no_such_channel, too_many_channels, too_many_users}
 use Rattle.out_records.specs.Records.{Sent, to}

@@ -1,4 +1,5 @@
 -- CLrq: whether p had joined a listed channel, and what becomes of one place. Assumes nothing.
+use Rattle.std.specs.Prelude.{if◌then◌else◌}
 use mathlib.Core.Path.{◌≡◌, refl, sym, ap, ◌∙◌}
 use mathlib.Core.Bool.{Bool, true, false, ◌&&◌}
 use mathlib.Core.List.{List}
@@ -10,7 +11,7 @@ use borrow.Author.Tests.{eq-eqb, ne_eqb}
 use lib.Dec.{eqb}
 use lib.ListN.{length, get_or, take, drop, drop_of_length-le}
 use lib.Seq.{drop-cons}
-use Rattle.cols_spec.specs.Sets.{if◌then◌else◌, any, member, has, without, connections}
+use Rattle.cols_spec.specs.Sets.{any, member, has, without, connections}
 use Rattle.cols_spec.specs.Places.{Place, At, Nowhere, find, load}
 use Rattle.cols_spec.proofs.Marks.{has_none}
 use Rattle.domain.specs.declared.channel.Channel.{Channel}

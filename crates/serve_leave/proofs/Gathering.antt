@@ -1,4 +1,5 @@
 -- The loop over the users on p, ascending: each is above all who are listed already. Assumes nothing.
+use Rattle.std.specs.Prelude.{if◌then◌else◌}
 use mathlib.Core.Path.{◌≡◌, refl, sym, ap, ◌∙◌}
 use mathlib.Core.Bool.{Bool, true, false, not, ◌&&◌, and-true, false≢true}
 use mathlib.Core.List.{List, [], ◌∷◌, ◌++◌, append-nil, append_assoc}
@@ -7,7 +8,7 @@ use native.Mathlib.Omega.{arith}
 use borrow.Author.Tests.{eqb-true}
 use lib.Dec.{eqb}
 use lib.ListN.{length, get_or}
-use Rattle.cols_spec.specs.Sets.{if◌then◌else◌, keep, any, each, member}
+use Rattle.cols_spec.specs.Sets.{keep, any, each, member}
 use Rattle.cols_spec.specs.Places.{Place, At, find, found, next, rising, in_order, picked}
 use Rattle.cols_spec.proofs.Answers.{find-inside}
 use Rattle.cols_spec.proofs.Bools.{or_elim}

@@ -1,4 +1,5 @@
 -- Those listed: nobody, one user more, and whether there are any. Assumes nothing.
+use Rattle.std.specs.Prelude.{if◌then◌else◌}
 use mathlib.Core.Path.{◌≡◌, refl, sym, ap, ◌∙◌}
 use mathlib.Core.Bool.{Bool, true, false, not, ◌&&◌}
 use mathlib.Core.List.{List, [], ◌∷◌, ◌++◌, append-nil}
@@ -8,7 +9,7 @@ use native.Mathlib.Omega.{arith}
 use lib.Dec.{eqb}
 use lib.ListN.{length, set, take, length-set}
 use lib.Seq.{take-suc-set, get_or-set_other}
-use Rattle.cols_spec.specs.Sets.{if◌then◌else◌, null, member, has, with, seats}
+use Rattle.cols_spec.specs.Sets.{null, member, has, with, seats}
 use Rattle.cols_spec.specs.Places.{Place, At, Nowhere, find, found, number}
 use Rattle.cols_spec.proofs.Answers.{find-inside, number_at, number_none}
 use Rattle.domain.specs.Tables.{Users, link, attached}

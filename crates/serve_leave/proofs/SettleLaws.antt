@@ -1,4 +1,5 @@
 -- Those who leave, settled: refused with 9 and nothing touched, or done; and who leaves by a DUrq, or with a connection that closes.
+use Rattle.std.specs.Prelude.{if◌then◌else◌}
 use mathlib.Core.Path.{◌≡◌, refl, sym, ◌∙◌}
 use mathlib.Core.Bool.{Bool, true, false, not, ◌&&◌, true≢false}
 use mathlib.Core.List.{List}
@@ -7,7 +8,7 @@ use native.Mathlib.Nat.{zero-add}
 use borrow.Author.Tests.{eqb-true, not-true}
 use lib.Dec.{eqb}
 use lib.ListN.{length, take}
-use Rattle.cols_spec.specs.Sets.{if◌then◌else◌, null, member, without, once, connections}
+use Rattle.cols_spec.specs.Sets.{null, member, without, once, connections}
 use Rattle.cols_spec.specs.Places.{Place, At, Nowhere, find, found, in_order}
 use Rattle.cols_spec.proofs.Bools.{and_parts}
 use Rattle.cols_spec.proofs.Members.{member_keep}

@@ -1,6 +1,6 @@
 -- Those who leave: a list of their ids in an array, and their places.
-use Rattle.std.specs.Prelude.{ℕ, ◌+◌, ◌≤◌, ◌<◌, ◌≡◌, not, ◌&&◌, List, [], ◌∷◌, ◌++◌, length, get_or, take}
-use Rattle.cols_spec.specs.Sets.{if◌then◌else◌, member}
+use Rattle.std.specs.Prelude.{ℕ, ◌+◌, ◌≤◌, ◌<◌, ◌≡◌, not, ◌&&◌, List, [], ◌∷◌, ◌++◌, length, get_or, take, if◌then◌else◌}
+use Rattle.cols_spec.specs.Sets.{member}
 use Rattle.cols_spec.specs.Places.{found}
 use Rattle.domain.specs.Tables.{Users, attached}
 use Rattle.domain.specs.Channels.{places}

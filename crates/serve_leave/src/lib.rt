@@ -1,7 +1,7 @@
 // Leaving: the users listed in a DUrq, or all those of a connection that closes. They leave together, judged on the tables before. Who
 // leaves is listed first: their ids in a list that is lent, and their places.
-ghost use Rattle.std.specs.Prelude.{◌≡◌, List, ℕ, ◌%◌, ◌≤◌, ◌<◌, length, take};
-ghost use Rattle.cols_spec.specs.Sets.{if◌then◌else◌, without, once, connections as all_links};
+ghost use Rattle.std.specs.Prelude.{◌≡◌, List, ℕ, ◌%◌, ◌≤◌, ◌<◌, length, take, if◌then◌else◌};
+ghost use Rattle.cols_spec.specs.Sets.{without, once, connections as all_links};
 ghost use Rattle.cols_spec.specs.Places.{in_order};
 ghost use Rattle.out_records.specs.Records.{records};
 ghost use Rattle.out_records.specs.Out.{Puts};

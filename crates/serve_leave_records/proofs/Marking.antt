@@ -1,4 +1,5 @@
 -- The ids of channels that end as marks: with one more, and a walk over a column that marks those that it picks.
+use Rattle.std.specs.Prelude.{if◌then◌else◌}
 use mathlib.Core.Path.{◌≡◌, refl, sym, ◌∙◌}
 use mathlib.Core.Bool.{Bool, true, false, ◌||◌, or-false}
 use mathlib.Core.List.{List, [], ◌∷◌, ◌++◌}
@@ -8,7 +9,7 @@ use native.Mathlib.Omega.{arith}
 use lib.ListN.{length, get_or, take}
 use lib.Seq.{take-suc, take_all}
 use borrow.Author.Tests.{ne_eqb}
-use Rattle.cols_spec.specs.Sets.{if◌then◌else◌, any, member, union, ids_above, seats}
+use Rattle.cols_spec.specs.Sets.{any, member, union, ids_above, seats}
 use Rattle.cols_spec.specs.Places.{picked}
 use Rattle.cols_spec.proofs.Below.{across}
 use Rattle.cols_spec.proofs.Digits.{is_those, those_lt, or_union}

@@ -1,11 +1,12 @@
 -- The parts of a farewell: what the code puts, and how many octets they take.
+use Rattle.std.specs.Prelude.{if◌then◌else◌}
 use mathlib.Core.Path.{◌≡◌, refl, ap, ◌∙◌}
 use mathlib.Core.Bool.{Bool, true, false, not, ◌&&◌}
 use mathlib.Core.List.{List, [], ◌∷◌, ◌++◌}
 use Prim.Native.Nat.{ℕ, ◌+◌, ◌*◌, ◌≤◌, ◌<◌}
 use native.Mathlib.Omega.{arith}
 use lib.ListN.{length, take, get_or, length-append}
-use Rattle.cols_spec.specs.Sets.{if◌then◌else◌, null, each, has, with, meet, connections, seats}
+use Rattle.cols_spec.specs.Sets.{null, each, has, with, meet, connections, seats}
 use Rattle.cols_spec.specs.Places.{Place, At, Nowhere, find, load, number, in_order}
 use Rattle.cols_spec.proofs.Order.{in_order_length}
 use Rattle.codec_table.specs.Named.{DUin, CDin, TVcf, no_such_user}

@@ -1,4 +1,5 @@
 -- Nothing is told of a channel that does not end, or of a token that is not being given.
+use Rattle.std.specs.Prelude.{if◌then◌else◌}
 use mathlib.Core.Path.{◌≡◌, refl, sym, ap, ◌∙◌}
 use mathlib.Core.Bool.{Bool, true, false, ◌&&◌}
 use mathlib.Core.List.{List, [], ◌∷◌}
@@ -6,7 +7,7 @@ use Prim.Native.Nat.{ℕ, zero, suc, ◌%◌, ◌<◌}
 use lib.Dec.{eqb, ltb}
 use lib.ListN.{length, get_or, get_or-eq_default}
 use borrow.Author.Tests.{ne_eqb, ltb-true, ltb-false}
-use Rattle.cols_spec.specs.Sets.{if◌then◌else◌, each, has}
+use Rattle.cols_spec.specs.Sets.{each, has}
 use Rattle.cols_spec.specs.Places.{At, find, load, in_order, picked}
 use Rattle.cols_spec.proofs.Kept.{picked_length, each_picked, each_none}
 use Rattle.out_records.specs.Records.{Sent, records}

@@ -1,6 +1,6 @@
 -- The parts of a farewell, under a name each.
-use Rattle.std.specs.Prelude.{ℕ, Bool, ◌&&◌, List, [], eqb, get_or}
-use Rattle.cols_spec.specs.Sets.{if◌then◌else◌, null, has}
+use Rattle.std.specs.Prelude.{ℕ, Bool, ◌&&◌, List, [], eqb, get_or, if◌then◌else◌}
+use Rattle.cols_spec.specs.Sets.{null, has}
 use Rattle.cols_spec.specs.Places.{find, load}
 use Rattle.codec_table.specs.Named.{DUin}
 use Rattle.out_records.specs.Records.{Sent, tell}

@@ -1,6 +1,6 @@
 // The records that tell of users who leave: DUin by connection, CDin by channel, TVcf by token.
-ghost use Rattle.std.specs.Prelude.{◌≡◌, List, [], ◌∷◌, ◌++◌, ℕ, ◌+◌, ◌-◌, ◌<◌, ◌≤◌, length, take};
-ghost use Rattle.cols_spec.specs.Sets.{if◌then◌else◌, each, ids_above};
+ghost use Rattle.std.specs.Prelude.{◌≡◌, List, [], ◌∷◌, ◌++◌, ℕ, ◌+◌, ◌-◌, ◌<◌, ◌≤◌, length, take, if◌then◌else◌};
+ghost use Rattle.cols_spec.specs.Sets.{each, ids_above};
 ghost use Rattle.cols_spec.specs.Places.{next as next_in, in_order, picked};
 ghost use Rattle.codec_table.specs.Named.{TVcf, no_such_user};
 ghost use Rattle.out_records.specs.Records.{to, records as records_of};

@@ -1,4 +1,5 @@
 -- What becomes of a channel by the test of its role, what becomes of its place, and where the sweep of the table starts.
+use Rattle.std.specs.Prelude.{if◌then◌else◌}
 use mathlib.Core.Path.{◌≡◌, refl, ap, ap₂, ◌∙◌}
 use mathlib.Core.Bool.{Bool, true, false}
 use mathlib.Core.List.{List}
@@ -9,7 +10,7 @@ use borrow.Author.Tests.{eqb-true, ne_eqb}
 use lib.Dec.{eqb}
 use lib.ListN.{length, get_or, set}
 use lib.Seq.{set-get_or}
-use Rattle.cols_spec.specs.Sets.{if◌then◌else◌, member, has, meet, connections}
+use Rattle.cols_spec.specs.Sets.{member, has, meet, connections}
 use Rattle.cols_spec.specs.Swept.{Turns, anywhere}
 use Rattle.cols_spec.proofs.Sweeps.{Sweeps, sweeps_start}
 use Rattle.domain.specs.declared.channel.Channel.{Channel}

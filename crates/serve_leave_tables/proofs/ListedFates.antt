@@ -1,4 +1,5 @@
 -- Where every listed id is a user's, the channels become by the ids listed what they become by those users' places.
+use Rattle.std.specs.Prelude.{if◌then◌else◌}
 use mathlib.Core.Path.{◌≡◌, refl, sym, ap, ◌∙◌, fun_ext}
 use mathlib.Core.Bool.{Bool, true, false, false≢true}
 use mathlib.Core.List.{List}
@@ -6,7 +7,7 @@ use mathlib.Core.Option.{Option, none}
 use Prim.Native.Nat.{ℕ}
 use native.Mathlib.Omega.{arith}
 use lib.ListN.{length}
-use Rattle.cols_spec.specs.Sets.{if◌then◌else◌, member, has, meet, connections}
+use Rattle.cols_spec.specs.Sets.{member, has, meet, connections}
 use Rattle.cols_spec.specs.Places.{Place, At, Nowhere, find, found}
 use Rattle.cols_spec.proofs.Rows.{find_holds}
 use Rattle.domain.specs.declared.channel.Channel.{Channel}

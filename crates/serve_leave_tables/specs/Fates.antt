@@ -1,7 +1,7 @@
 -- What becomes of one place, under a name.
-use Rattle.std.specs.Prelude.{ℕ, Bool, not, ◌&&◌, ◌||◌, List, eqb}
+use Rattle.std.specs.Prelude.{ℕ, Bool, not, ◌&&◌, ◌||◌, List, eqb, if◌then◌else◌}
 use Rattle.std.proofs.Math.Option.{Option, none, some}
-use Rattle.cols_spec.specs.Sets.{if◌then◌else◌, member, has, with, minus, meet, connections, seats}
+use Rattle.cols_spec.specs.Sets.{member, has, with, minus, meet, connections, seats}
 use Rattle.domain.specs.declared.channel.Channel.{Channel}
 use Rattle.domain.specs.declared.channel.Kind.{Kind}
 use Rattle.domain.specs.declared.channel.Kind.TheVariants.{Static, User, Private, Assigned}

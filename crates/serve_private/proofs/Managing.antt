@@ -1,4 +1,5 @@
 -- Who manages a private channel, and CCrq and CDrq by cases. Assumes nothing.
+use Rattle.std.specs.Prelude.{if◌then◌else◌}
 use mathlib.Core.Path.{◌≡◌, refl, sym, ap, ◌∙◌}
 use mathlib.Core.Bool.{Bool, true, false}
 use mathlib.Core.List.{List, [], ◌∷◌}
@@ -7,7 +8,7 @@ use Prim.Native.Nat.{ℕ, ◌≤◌, ◌<◌}
 use native.Mathlib.Omega.{arith}
 use lib.Dec.{eqb}
 use lib.ListN.{length, get_or}
-use Rattle.cols_spec.specs.Sets.{if◌then◌else◌, with, seats}
+use Rattle.cols_spec.specs.Sets.{with, seats}
 use Rattle.cols_spec.specs.Places.{Place, At, Nowhere, find}
 use Rattle.codec_table.specs.Named.{Message, CCcf, CDin, successful, too_many_channels}
 use Rattle.out_records.specs.Records.{Sent, to, tell}

@@ -1,6 +1,6 @@
 // Requests about private channels, on lent columns: CCrq, CDrq, CArq, CErq. Each decides, sends where there is room, then stores.
-ghost use Rattle.std.specs.Prelude.{◌≡◌, true, false, List, ℕ, ◌≤◌, ◌<◌, eqb, take};
-ghost use Rattle.cols_spec.specs.Sets.{if◌then◌else◌, with, seats};
+ghost use Rattle.std.specs.Prelude.{◌≡◌, true, false, List, ℕ, ◌≤◌, ◌<◌, eqb, take, if◌then◌else◌};
+ghost use Rattle.cols_spec.specs.Sets.{with, seats};
 ghost use Rattle.domain.specs.Cells.{kind};
 ghost use Rattle.domain.specs.Tables.{Channels, channel, hosts as hosts_of, at_limit, grant};
 ghost use Rattle.domain.specs.Lent.{channels_after, channels_after_with, channels_before, channels_before_with, users_before};

@@ -1,4 +1,5 @@
 -- What each connection hears of listed users: its own, in their order. Assumes nothing.
+use Rattle.std.specs.Prelude.{if◌then◌else◌}
 use mathlib.Core.Path.{◌≡◌, refl, sym, ap, ◌∙◌}
 use mathlib.Core.Bool.{Bool, true, false}
 use mathlib.Core.List.{List, [], ◌∷◌, ◌++◌}
@@ -9,7 +10,7 @@ use native.Mathlib.Omega.{arith}
 use lib.Dec.{eqb}
 use lib.ListN.{length, take, drop, get_or, length-take, length-append, take-append-drop, drop_of_length-le}
 use lib.Seq.{drop-cons}
-use Rattle.cols_spec.specs.Sets.{if◌then◌else◌, keep, null, each, below, connections}
+use Rattle.cols_spec.specs.Sets.{keep, null, each, below, connections}
 use Rattle.cols_spec.specs.Places.{found}
 use Rattle.cols_spec.proofs.Order.{keep_le}
 use Rattle.cols_spec.proofs.Turns.{keep_append}

@@ -1,4 +1,5 @@
 -- Lists of users: those picked, each once, in their order; what is known of them grows with each. Assumes nothing.
+use Rattle.std.specs.Prelude.{if◌then◌else◌}
 use mathlib.Core.Path.{◌≡◌, refl, sym, ap, ◌∙◌}
 use mathlib.Core.Bool.{Bool, true, false, not, ◌&&◌}
 use mathlib.Core.List.{List, [], ◌∷◌, ◌++◌, append-nil}
@@ -10,7 +11,7 @@ use borrow.Author.Tests.{eqb-true, eqb-false, ne_eqb}
 use lib.Dec.{eqb}
 use lib.ListN.{length, get_or, set, take, replicate, length-append, get_or-replicate, get_or-append}
 use lib.Seq.{length-take-le, take-suc, take-suc-set, take_all, take-append-le, get_or-append_seam, get_or-set_same, get_or-set_other}
-use Rattle.cols_spec.specs.Sets.{if◌then◌else◌, keep, member, firsts as firsts_of, once, has, with, connections, seats}
+use Rattle.cols_spec.specs.Sets.{keep, member, firsts as firsts_of, once, has, with, connections, seats}
 use Rattle.cols_spec.specs.Places.{Place, At, Nowhere, find, found, number}
 use Rattle.cols_spec.proofs.Order.{keep_le}
 use Rattle.cols_spec.proofs.Turns.{keep_append}

@@ -1,4 +1,5 @@
 -- What is told of a list, and that it says what the tables are. Assumes nothing.
+use Rattle.std.specs.Prelude.{if◌then◌else◌}
 use mathlib.Core.Path.{◌≡◌, refl, sym, ap, ◌∙◌}
 use mathlib.Core.Bool.{Bool, true, false}
 use mathlib.Core.List.{List, [], ◌∷◌, ◌++◌}
@@ -6,7 +7,7 @@ use Prim.Native.Nat.{ℕ, zero, suc, ◌≤◌}
 use native.Mathlib.Omega.{arith}
 use lib.Dec.{eqb, ltb}
 use lib.ListN.{length, take, drop}
-use Rattle.cols_spec.specs.Sets.{if◌then◌else◌, null}
+use Rattle.cols_spec.specs.Sets.{null}
 use Rattle.out_records.specs.Records.{Sent, records}
 use Rattle.domain.specs.Tables.{Users}
 use Rattle.domain.specs.Effects.{ignored, done, Settled, settled, delivers, settle}

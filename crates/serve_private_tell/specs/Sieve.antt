@@ -1,6 +1,6 @@
 -- Lists of users: which of them count, and what is said of them to each connection.
-use Rattle.std.specs.Prelude.{◌≡◌, ℕ, ◌<◌, ◌≤◌, Bool, true, false, List, [], ◌∷◌, eqb, length, take, get_or}
-use Rattle.cols_spec.specs.Sets.{if◌then◌else◌, keep, null, once, has, connections}
+use Rattle.std.specs.Prelude.{◌≡◌, ℕ, ◌<◌, ◌≤◌, Bool, true, false, List, [], ◌∷◌, eqb, length, take, get_or, if◌then◌else◌}
+use Rattle.cols_spec.specs.Sets.{keep, null, once, has, connections}
 use Rattle.cols_spec.specs.Places.{At, Nowhere, find, found}
 use Rattle.codec_table.specs.Named.{Message, CAin, CEin}
 use Rattle.out_records.specs.Records.{Sent, to, wire, record_of}

@@ -1,4 +1,5 @@
 -- What is understood of octets, test by test, and that a request as the code holds it asks for what the message does. Assumes nothing.
+use Rattle.std.specs.Prelude.{if◌then◌else◌}
 use mathlib.Core.Path.{◌≡◌, refl, sym, ap, ap₂, ◌∙◌, subst}
 use mathlib.Core.Bool.{Bool, true, false, not, cond, ◌||◌, false≢true}
 use mathlib.Core.List.{List, [], ◌∷◌}
@@ -8,7 +9,6 @@ use borrow.Author.Tests.{lt-ltb, le-ltb, le-leb, lt-leb, ltb-true, ltb-false, le
 use lib.Dec.{eqb, leb, ltb}
 use lib.ListN.{length, get_or, take, replicate, get_or-eq_default}
 use lib.Seq.{take_at}
-use Rattle.cols_spec.specs.Sets.{if◌then◌else◌}
 use Rattle.codec_octets.specs.Octets.{Bytes}
 use Rattle.codec_octets.proofs.OctetLaws.{both_left, both_right}
 use Rattle.codec_table.specs.Messages.{Way, down, up, served, goes_up, way_served, unknown, table, entry, may_go_up, is_served}

@@ -1,6 +1,5 @@
 -- What the code makes of octets: a refusal by its number, or a request.
-use Rattle.std.specs.Prelude.{◌≡◌, ℕ, ◌%◌, List, eqb, take, get_or}
-use Rattle.cols_spec.specs.Sets.{if◌then◌else◌}
+use Rattle.std.specs.Prelude.{◌≡◌, ℕ, ◌%◌, List, eqb, take, get_or, if◌then◌else◌}
 use Rattle.codec_table.specs.Named.{Message}
 use Rattle.codec_read.specs.declared.Head.{Head}
 use Rattle.domain.specs.Numbers.{reply_number}

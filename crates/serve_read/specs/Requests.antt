@@ -1,6 +1,5 @@
 -- The message that a served number names, with its values and its list, as the code holds them: what it asks for is what the message read asks for.
-use Rattle.std.specs.Prelude.{ℕ, ◌%◌, List, eqb, ltb}
-use Rattle.cols_spec.specs.Sets.{if◌then◌else◌}
+use Rattle.std.specs.Prelude.{ℕ, ◌%◌, List, eqb, ltb, if◌then◌else◌}
 use Rattle.codec_table.specs.Named.{Message, EDrq, DPum, AUrq, DUrq, CJrq, CLrq, CCrq, CDrq, CArq, CErq, TGrq, TIrq, TVrq, TVrs, TPrq, TRrq, TTrq}
 
 -- requests about tokens, by the user and the token; a TVrq carries its recipient besides, a TVrs its result

@@ -1,6 +1,5 @@
 -- What the provider makes of the octets of a message.
-use Rattle.std.specs.Prelude.{ℕ, ◌/◌, not, List, ltb, get_or}
-use Rattle.cols_spec.specs.Sets.{if◌then◌else◌}
+use Rattle.std.specs.Prelude.{ℕ, ◌/◌, not, List, ltb, get_or, if◌then◌else◌}
 use Rattle.codec_table.specs.Messages.{may_go_up, is_served}
 use Rattle.codec_table.specs.Codec.{Outcome, ok, refuse, sized}
 use Rattle.codec_table.specs.Named.{Message, heard}

@@ -1,11 +1,11 @@
 -- The place of an initiator, and requests that go on with it. Assumes nothing.
+use Rattle.std.specs.Prelude.{if◌then◌else◌}
 use mathlib.Core.Path.{◌≡◌, refl, sym, ap, ◌∙◌}
 use mathlib.Core.Bool.{Bool, true, false}
 use Prim.Native.Nat.{ℕ, ◌≤◌, ◌<◌}
 use borrow.Author.Tests.{lt-ltb, le-ltb}
 use lib.Dec.{eqb, ltb}
 use lib.ListN.{length}
-use Rattle.cols_spec.specs.Sets.{if◌then◌else◌}
 use Rattle.cols_spec.specs.Places.{Place, At, Nowhere, find, number}
 use Rattle.cols_spec.proofs.Rows.{At≢Nowhere}
 use Rattle.cols_spec.proofs.Answers.{Inside, find-inside, number_at, number_none}

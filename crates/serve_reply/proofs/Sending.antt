@@ -1,4 +1,5 @@
 -- Records sent whole or not at all, and the tables beside them. Assumes nothing.
+use Rattle.std.specs.Prelude.{if◌then◌else◌}
 use mathlib.Core.Path.{◌≡◌, refl, sym, ap, ◌∙◌}
 use mathlib.Core.Bool.{Bool, true, false}
 use mathlib.Core.List.{List, [], ◌∷◌, ◌++◌}
@@ -7,7 +8,6 @@ use native.Mathlib.Omega.{arith}
 use borrow.Author.Tests.{lt-ltb, le-ltb}
 use lib.Dec.{eqb, ltb}
 use lib.ListN.{length, drop}
-use Rattle.cols_spec.specs.Sets.{if◌then◌else◌}
 use Rattle.codec_table.specs.Named.{Message}
 use Rattle.out_records.specs.Records.{Sent, to, tell, wire, record_of, records}
 use Rattle.out_records.specs.Out.{Puts, guarded, told}

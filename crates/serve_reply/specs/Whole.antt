@@ -1,6 +1,5 @@
 -- What is answered where the tables do not matter.
-use Rattle.std.specs.Prelude.{ℕ, List, ◌++◌, length, drop}
-use Rattle.cols_spec.specs.Sets.{if◌then◌else◌}
+use Rattle.std.specs.Prelude.{ℕ, List, ◌++◌, length, drop, if◌then◌else◌}
 use Rattle.domain.specs.declared.answer.Answer.{Answer}
 use Rattle.domain.specs.declared.numbers.Reply.TheVariants.{Ignored}
 use Rattle.domain.specs.Effects.{Settled, settled, exceeds}

@@ -1,11 +1,11 @@
 -- What a request that is confirmed to its asker makes of a token is what it asks for. Assumes nothing.
+use Rattle.std.specs.Prelude.{if◌then◌else◌}
 use mathlib.Core.Path.{◌≡◌, refl, sym, ap, ◌∙◌}
 use mathlib.Core.Bool.{Bool, true, false}
 use mathlib.Core.List.{[], ◌∷◌}
 use Prim.Native.Nat.{ℕ}
 use types.Run.{OneOf, miss}
 use denote.Enum.Declared.{tag_of}
-use Rattle.cols_spec.specs.Sets.{if◌then◌else◌}
 use Rattle.cols_spec.specs.Places.{At, Nowhere, find}
 use Rattle.codec_table.specs.Named.{Message, TGcf, TIcf, TRcf, TVcf, no_such_user, token_not_possessed}
 use Rattle.out_messages.specs.Confirms.{confirm}

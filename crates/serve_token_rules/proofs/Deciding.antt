@@ -1,4 +1,5 @@
 -- What is decided of a token is what the request asks for. Assumes nothing.
+use Rattle.std.specs.Prelude.{if◌then◌else◌}
 use mathlib.Core.Path.{◌≡◌, refl, sym, ap, ◌∙◌}
 use mathlib.Core.Bool.{Bool, true, false}
 use mathlib.Core.List.{List, [], ◌∷◌}
@@ -6,7 +7,6 @@ use Prim.Native.Nat.{ℕ}
 use lib.Dec.{eqb}
 use types.Run.{OneOf, miss}
 use denote.Enum.Declared.{tag_of}
-use Rattle.cols_spec.specs.Sets.{if◌then◌else◌}
 use Rattle.cols_spec.specs.Places.{Place, At, Nowhere, find}
 use Rattle.codec_table.specs.Named.{Message, TVin, TVcf, successful, no_such_user, token_not_possessed}
 use Rattle.out_records.specs.Records.{to, wire}

@@ -1,6 +1,5 @@
 -- What is confirmed to the asker itself: every request but an answer, and an offer only where it is not passed on.
-use Rattle.std.specs.Prelude.{ℕ, Bool, List}
-use Rattle.cols_spec.specs.Sets.{if◌then◌else◌}
+use Rattle.std.specs.Prelude.{ℕ, Bool, List, if◌then◌else◌}
 use Rattle.cols_spec.specs.Places.{load}
 use Rattle.codec_table.specs.Named.{no_such_user, token_not_possessed}
 use Rattle.out_messages.specs.declared.Confirm.{Confirm}

@@ -1,4 +1,5 @@
 -- A deed that is done settles what its effect does. Assumes nothing.
+use Rattle.std.specs.Prelude.{if◌then◌else◌}
 use mathlib.Core.Path.{◌≡◌, refl, sym, ap, ◌∙◌}
 use mathlib.Core.Bool.{Bool, true, false}
 use mathlib.Core.List.{List, [], ◌∷◌}
@@ -7,7 +8,6 @@ use lib.Dec.{eqb}
 use lib.ListN.{length}
 use types.Run.{OneOf, miss}
 use denote.Enum.Declared.{tag_of}
-use Rattle.cols_spec.specs.Sets.{if◌then◌else◌}
 use Rattle.out_records.specs.Records.{to, record_of}
 use Rattle.out_records.specs.Out.{guarded}
 use Rattle.domain.specs.Tables.{Tokens}

@@ -1,10 +1,10 @@
 -- Requests about tokens by their numbers: which of TTrq and TPrq is asked for, where it is one of them, and that each is ignored where nobody asks. Assumes
 -- nothing.
+use Rattle.std.specs.Prelude.{if◌then◌else◌}
 use mathlib.Core.Path.{◌≡◌, refl, ap}
 use mathlib.Core.Bool.{Bool, true, false, ◌||◌, false≢true}
 use Prim.Native.Nat.{ℕ, ◌%◌}
 use lib.Dec.{eqb, ltb}
-use Rattle.cols_spec.specs.Sets.{if◌then◌else◌}
 use Rattle.cols_spec.specs.Places.{Nowhere}
 use Rattle.cols_spec.proofs.Bools.{or_parts}
 use Rattle.codec_table.specs.Named.{TGrq, TIrq, TVrq, TVrs, TRrq, TPrq, TTrq}

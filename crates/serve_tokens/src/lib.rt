@@ -1,6 +1,5 @@
 // Requests about tokens, on lent columns: TGrq, TIrq, TRrq, TVrq, TVrs, TPrq, TTrq. Each decides, refuses what has no room, then stores and sends.
-ghost use Rattle.std.specs.Prelude.{◌≡◌, ℕ, eqb};
-ghost use Rattle.cols_spec.specs.Sets.{if◌then◌else◌};
+ghost use Rattle.std.specs.Prelude.{◌≡◌, ℕ, eqb, if◌then◌else◌};
 ghost use Rattle.cols_spec.specs.Places.{At, find};
 ghost use Rattle.out_records.specs.Records.{to};
 ghost use Rattle.domain.specs.Numbers.{reply_number};

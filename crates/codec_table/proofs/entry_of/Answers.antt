@@ -3,7 +3,6 @@ use Prim.Native.Nat.{ℕ}
 use lib.ListN.{get_or-eq_default}
 use Rattle.codec_table.proofs.ColumnLaws.{none_of}
 use Rattle.codec_table.specs.Columns.{packed, packed_at}
-
 -- an arm's constant is its number's line
 use Rattle.codec_table.proofs.entry_of.Goals as goal
 

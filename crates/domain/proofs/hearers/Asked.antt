@@ -1,11 +1,12 @@
 -- Who could have heard, in T-14's own words: it follows, of every history, from the sharper claim. Assumes nothing.
+use Rattle.std.specs.Prelude.{if◌then◌else◌}
 use mathlib.Core.Path.{◌≡◌}
 use mathlib.Core.Bool.{Bool, true, false, ◌&&◌, ◌||◌, false≢true, or-true}
 use mathlib.Core.List.{List, [], ◌∷◌}
 use mathlib.Core.Option.{Option, none, some}
 use Prim.Native.Nat.{ℕ}
 use lib.Dec.{eqb}
-use Rattle.cols_spec.specs.Sets.{if◌then◌else◌, member}
+use Rattle.cols_spec.specs.Sets.{member}
 use Rattle.cols_spec.proofs.Bools.{or_elim}
 use Rattle.out_records.specs.Records.{Sent, to}
 use Rattle.domain.specs.History.{History, begins, ◌▹◌}

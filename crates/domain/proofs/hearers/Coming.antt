@@ -1,4 +1,5 @@
 -- AUrq and opening: a new user is admitted nowhere, and a new connection is marked nowhere. Assumes nothing.
+use Rattle.std.specs.Prelude.{if◌then◌else◌}
 use mathlib.Core.Path.{◌≡◌, refl, sym, ap, ◌∙◌}
 use mathlib.Core.Bool.{Bool, true, false, ◌||◌, true≢false}
 use mathlib.Core.List.{[], ◌∷◌}
@@ -8,7 +9,7 @@ use native.Mathlib.Omega.{arith}
 use lib.Dec.{eqb}
 use lib.ListN.{length, get_or}
 use borrow.Author.Tests.{eq-eqb, ne_eqb, eqb-true, leb-false}
-use Rattle.cols_spec.specs.Sets.{if◌then◌else◌, all, has, with, connections}
+use Rattle.cols_spec.specs.Sets.{all, has, with, connections}
 use Rattle.cols_spec.specs.Places.{At, used, spare, store}
 use Rattle.cols_spec.proofs.Marks.{Marks}
 use Rattle.cols_spec.proofs.Rows.{at_set}

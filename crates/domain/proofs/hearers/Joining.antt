@@ -1,4 +1,5 @@
 -- CJrq, CLrq, CCrq and CDrq: what history hears of channels is what becomes of the table. Assumes nothing.
+use Rattle.std.specs.Prelude.{if◌then◌else◌}
 use mathlib.Core.Path.{◌≡◌, refl, sym, ◌∙◌}
 use mathlib.Core.Bool.{Bool, true, false, ◌&&◌, false≢true}
 use mathlib.Core.List.{List, [], ◌∷◌}
@@ -8,7 +9,7 @@ use native.Mathlib.Omega.{arith}
 use lib.Dec.{eqb, ltb}
 use lib.ListN.{length, get_or}
 use borrow.Author.Tests.{eq-eqb, ne_eqb, eqb-true, eqb-false, ltb-false}
-use Rattle.cols_spec.specs.Sets.{if◌then◌else◌, any, all, member, has, with, without, only, connections, seats}
+use Rattle.cols_spec.specs.Sets.{any, all, member, has, with, without, only, connections, seats}
 use Rattle.cols_spec.specs.Places.{Place, At, Nowhere, find}
 use Rattle.cols_spec.proofs.Bools.{none≢some, some_is}
 use Rattle.cols_spec.proofs.Marks.{has_none, in_with, in_without}

@@ -1,4 +1,5 @@
 -- DUrq, DPum, RJum and loss: who leaves is admitted nowhere, and of the private channels that stay history says what it said. Assumes nothing.
+use Rattle.std.specs.Prelude.{if◌then◌else◌}
 use mathlib.Core.Path.{◌≡◌, refl, sym, ap, ◌∙◌}
 use mathlib.Core.Bool.{Bool, true, false, not, ◌&&◌, and-true}
 use mathlib.Core.List.{List}
@@ -6,7 +7,7 @@ use mathlib.Core.Option.{none, some}
 use Prim.Native.Nat.{ℕ}
 use native.Mathlib.Omega.{arith}
 use lib.ListN.{get_or}
-use Rattle.cols_spec.specs.Sets.{if◌then◌else◌, null, all, once, has, with, without, minus, meet, connections, seats}
+use Rattle.cols_spec.specs.Sets.{null, all, once, has, with, without, minus, meet, connections, seats}
 use Rattle.cols_spec.specs.Places.{Place, At, Nowhere, find, in_order, turns_to}
 use Rattle.cols_spec.proofs.Bools.{none≢some, some_is}
 use Rattle.cols_spec.proofs.Digits.{has_those}

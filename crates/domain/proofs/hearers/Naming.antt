@@ -1,4 +1,5 @@
 -- CArq and CErq: who is named in a CAin or a CEin is who is admitted or expelled in the table. Assumes nothing.
+use Rattle.std.specs.Prelude.{if◌then◌else◌}
 use mathlib.Core.Path.{◌≡◌, refl, sym, ap, ◌∙◌}
 use mathlib.Core.Bool.{Bool, true, false, not, ◌&&◌, ◌||◌}
 use mathlib.Core.List.{List}
@@ -8,7 +9,7 @@ use native.Mathlib.Omega.{arith}
 use lib.Dec.{eqb}
 use lib.ListN.{length, get_or}
 use borrow.Author.Tests.{eq-eqb, ne_eqb}
-use Rattle.cols_spec.specs.Sets.{if◌then◌else◌, null, has, with, minus, meet, union, member, connections, seats}
+use Rattle.cols_spec.specs.Sets.{null, has, with, minus, meet, union, member, connections, seats}
 use Rattle.cols_spec.specs.Places.{At, find}
 use Rattle.cols_spec.proofs.Digits.{has_those}
 use Rattle.cols_spec.proofs.Marks.{has_low, in_meet}

@@ -1,12 +1,13 @@
 -- What is known after messages sent: of lists of them one by one, of messages that say nothing, and of lists that each connection gets of its own. Assumes
 -- nothing.
+use Rattle.std.specs.Prelude.{if◌then◌else◌}
 use mathlib.Core.Path.{◌≡◌, refl, ap, ◌∙◌}
 use mathlib.Core.Bool.{Bool, true, false, ◌&&◌, ◌||◌, false≢true, and-false}
 use mathlib.Core.List.{List, [], ◌∷◌, ◌++◌}
 use Prim.Native.Nat.{ℕ, ◌<◌}
 use lib.Dec.{eqb}
 use borrow.Author.Tests.{eq-eqb}
-use Rattle.cols_spec.specs.Sets.{if◌then◌else◌, any, all, each, keep, null, below, member, connections}
+use Rattle.cols_spec.specs.Sets.{any, all, each, keep, null, below, member, connections}
 use Rattle.cols_spec.specs.Places.{At, Nowhere, find, found}
 use Rattle.cols_spec.proofs.Bools.{and_parts}
 use Rattle.cols_spec.proofs.Below.{any_same, any_hit, any_none}

@@ -1,5 +1,6 @@
 -- The relation between a history and the tables of users and channels: which ids are private channels, their managers, admitted users and marks. What keeps
 -- it. Assumes nothing.
+use Rattle.std.specs.Prelude.{if◌then◌else◌}
 use mathlib.Core.Path.{◌≡◌, refl, ◌∙◌}
 use mathlib.Core.Bool.{Bool, true, false, and-false}
 use mathlib.Core.List.{List}
@@ -7,7 +8,7 @@ use mathlib.Core.Option.{none, some}
 use Prim.Native.Nat.{ℕ, ◌≤◌, ◌<◌}
 use lib.Dec.{eqb, ltb}
 use lib.ListN.{length, get_or}
-use Rattle.cols_spec.specs.Sets.{if◌then◌else◌, has, all}
+use Rattle.cols_spec.specs.Sets.{has, all}
 use Rattle.cols_spec.specs.Places.{At, find}
 use Rattle.out_records.specs.Records.{Sent, records}
 use Rattle.domain.specs.declared.channel.Kind.{Kind}

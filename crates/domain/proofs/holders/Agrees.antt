@@ -1,4 +1,5 @@
 -- The relation between a history and the tables: each user's connection, and what it holds and is offered of each token. What keeps it. Assumes nothing.
+use Rattle.std.specs.Prelude.{if◌then◌else◌}
 use mathlib.Core.Path.{◌≡◌, refl, sym, ap, ap₂, ◌∙◌}
 use mathlib.Core.Bool.{Bool, true, false, ◌&&◌}
 use mathlib.Core.List.{List}
@@ -9,7 +10,7 @@ use lib.Dec.{eqb, ltb}
 use lib.ListN.{length}
 use borrow.Author.Tests.{ne_eqb, eqb-true}
 use Rattle.cols_spec.specs.Places.{Place, At, Nowhere, find}
-use Rattle.cols_spec.specs.Sets.{if◌then◌else◌, has, all}
+use Rattle.cols_spec.specs.Sets.{has, all}
 use Rattle.out_records.specs.Records.{Sent, records}
 use Rattle.cols_spec.proofs.Rows.{At≢Nowhere, find_holds, same_place}
 use Rattle.domain.specs.Tables.{Users, Tokens, Domain, link, state}

@@ -1,4 +1,5 @@
 -- What the relation says: history's holders are the table's, one who holds alone is alone, and the tokens in use are counted. Assumes nothing.
+use Rattle.std.specs.Prelude.{if◌then◌else◌}
 use mathlib.Core.Path.{◌≡◌, refl, sym, ap, ◌∙◌}
 use mathlib.Core.Bool.{Bool, true, false, not, ◌&&◌, ◌||◌, true≢false, false≢true}
 use mathlib.Core.List.{[]}
@@ -9,7 +10,7 @@ use lib.Dec.{eqb}
 use lib.ListN.{get_or}
 use borrow.Author.Tests.{eq-eqb, eqb-true, eqb-false}
 use Rattle.cols_spec.specs.Places.{Place, At, Nowhere, find, used, load}
-use Rattle.cols_spec.specs.Sets.{if◌then◌else◌, has, any, keep, below, member}
+use Rattle.cols_spec.specs.Sets.{has, any, keep, below, member}
 use Rattle.cols_spec.proofs.Below.{any_hit, any_none, Search, hit, miss, seek_first}
 use Rattle.cols_spec.proofs.Digits.{mask_ext}
 use Rattle.cols_spec.proofs.Marks.{has_none}

@@ -1,4 +1,5 @@
 -- How many numbers below a bound are in a table of ids: as many as the table has in use. Assumes nothing.
+use Rattle.std.specs.Prelude.{if◌then◌else◌}
 use mathlib.Core.Path.{◌≡◌, refl, sym, ap, ◌∙◌}
 use mathlib.Core.Bool.{Bool, true, false, not, ◌&&◌, ◌||◌, or-true, and-false}
 use mathlib.Core.List.{List, [], ◌∷◌}
@@ -8,7 +9,7 @@ use native.Mathlib.Omega.{arith}
 use lib.Dec.{eqb, ltb}
 use lib.ListN.{length}
 use borrow.Author.Tests.{eq-eqb, ne_eqb, eqb-true, eqb-false, lt-ltb}
-use Rattle.cols_spec.specs.Sets.{if◌then◌else◌, keep, any, upto, member}
+use Rattle.cols_spec.specs.Sets.{keep, any, upto, member}
 use Rattle.cols_spec.specs.Places.{used, distinct}
 use Rattle.cols_spec.proofs.Places.{distinct_head, distinct_tail}
 

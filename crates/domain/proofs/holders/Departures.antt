@@ -1,4 +1,5 @@
 -- DUrq, DPum, RJum and loss: those who leave, for history, are those whose places are swept. Assumes nothing.
+use Rattle.std.specs.Prelude.{if◌then◌else◌}
 use mathlib.Core.Path.{◌≡◌, refl, sym, ap, ◌∙◌}
 use mathlib.Core.Bool.{Bool, true, false, not, ◌&&◌, true≢false, and-false, and-true, or-false}
 use mathlib.Core.List.{List, []}
@@ -8,7 +9,7 @@ use native.Mathlib.Omega.{arith}
 use lib.Dec.{eqb}
 use borrow.Author.Tests.{ne_eqb}
 use Rattle.cols_spec.specs.Places.{Place, At, Nowhere, find, in_order}
-use Rattle.cols_spec.specs.Sets.{if◌then◌else◌, has, minus, seats, connections, without, all, any, null, member, once}
+use Rattle.cols_spec.specs.Sets.{has, minus, seats, connections, without, all, any, null, member, once}
 use Rattle.codec_table.specs.Named.{DUrq}
 use Rattle.out_records.specs.Records.{Sent}
 use Rattle.cols_spec.proofs.Digits.{has_those, eqb_sym}

@@ -1,4 +1,5 @@
 -- What history says of a user and a token, as one pair: how it holds the token, and whether an offer to it is open; and what one entry makes of it. Assumes nothing.
+use Rattle.std.specs.Prelude.{if◌then◌else◌}
 use mathlib.Core.Path.{◌≡◌, refl, ap, ◌∙◌}
 use mathlib.Core.Bool.{Bool, true, false, not, ◌&&◌, ◌||◌, false≢true, and-false, or-true}
 use mathlib.Core.List.{List, [], ◌∷◌}
@@ -6,7 +7,7 @@ use mathlib.Core.Option.{Option, none, some}
 use Prim.Native.Nat.{ℕ}
 use lib.Dec.{eqb}
 use borrow.Author.Tests.{eqb-true}
-use Rattle.cols_spec.specs.Sets.{if◌then◌else◌, any, all, member}
+use Rattle.cols_spec.specs.Sets.{any, all, member}
 use Rattle.out_records.specs.Records.{Sent, to}
 use Rattle.cols_spec.proofs.Bools.{and_parts}
 use Rattle.domain.specs.History.{Entry, History, ◌▹◌, Word, attaches, detaches, closes, grabs, inhibits, yields, offers, accepts, declines, full, other, code, unread}

@@ -1,4 +1,5 @@
 -- What sound tables give history: the state of every token after a change of one and of all, and where a user is found when some have left. Assumes nothing.
+use Rattle.std.specs.Prelude.{if◌then◌else◌}
 use mathlib.Core.Path.{◌≡◌, refl, sym, ap, ◌∙◌}
 use mathlib.Core.Bool.{Bool, true, false}
 use mathlib.Core.Option.{none, some}
@@ -9,7 +10,7 @@ use lib.ListN.{length, get_or}
 use lib.Seq.{set-get_or}
 use borrow.Author.Tests.{eqb-true, leb-false}
 use Rattle.cols_spec.specs.Places.{Place, At, Nowhere, find, found, seat, spare, distinct, used, store, load, turns_to}
-use Rattle.cols_spec.specs.Sets.{if◌then◌else◌, has}
+use Rattle.cols_spec.specs.Sets.{has}
 use Rattle.cols_spec.proofs.Rows.{find_holds, find_none, find_there, get_d_any, sweep_sizes}
 use Rattle.cols_spec.proofs.Table.{Table, sweep_used}
 use Rattle.cols_spec.proofs.Found.{load_added, load_put, load_cleared, load_swept, find_still, find_kept, find_freed}

@@ -1,4 +1,5 @@
 -- AUrq: a new user is attached for history as it is in the table, and holds nothing. Assumes nothing.
+use Rattle.std.specs.Prelude.{if◌then◌else◌}
 use mathlib.Core.Path.{◌≡◌, refl, sym, ap, ◌∙◌}
 use mathlib.Core.Bool.{Bool, true, false, ◌&&◌, and-false, and-true, or-false}
 use mathlib.Core.List.{[], ◌∷◌}
@@ -10,7 +11,7 @@ use lib.ListN.{get_or}
 use lib.Seq.{get_or-set_same, get_or-set_other}
 use borrow.Author.Tests.{ne_eqb, eqb-true, leb-false}
 use Rattle.cols_spec.specs.Places.{Place, At, Nowhere, find, spare, used, store}
-use Rattle.cols_spec.specs.Sets.{if◌then◌else◌, has, all, any, member}
+use Rattle.cols_spec.specs.Sets.{has, all, any, member}
 use Rattle.codec_table.specs.Named.{AUrq, AUcf, successful, too_many_users, too_many_channels}
 use Rattle.out_records.specs.Records.{to}
 use Rattle.cols_spec.proofs.Marks.{Marks}

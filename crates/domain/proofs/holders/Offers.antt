@@ -1,4 +1,5 @@
 -- TVrq and TVrs: an offer opens and closes for history as it does in the table. Assumes nothing.
+use Rattle.std.specs.Prelude.{if◌then◌else◌}
 use mathlib.Core.Path.{◌≡◌, refl, sym, ap, ◌∙◌, subst}
 use mathlib.Core.Bool.{Bool, true, false, ◌&&◌, ◌||◌, and-false, false≢true}
 use mathlib.Core.List.{List, [], ◌∷◌}
@@ -8,7 +9,7 @@ use native.Mathlib.Omega.{arith}
 use lib.Dec.{eqb}
 use borrow.Author.Tests.{eq-eqb, eqb-true}
 use Rattle.cols_spec.specs.Places.{Place, At, Nowhere, find}
-use Rattle.cols_spec.specs.Sets.{if◌then◌else◌, all, any, member}
+use Rattle.cols_spec.specs.Sets.{all, any, member}
 use Rattle.codec_table.specs.Named.{Message, TVrq, TVrs, TVcf, TVin, successful, no_such_user, token_not_possessed}
 use Rattle.out_records.specs.Records.{Sent, to}
 use Rattle.cols_spec.proofs.Bools.{none≢some}

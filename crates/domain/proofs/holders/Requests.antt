@@ -1,4 +1,5 @@
 -- TGrq, TIrq, TRrq: what a request makes of a token's state is what history hears of it. Assumes nothing.
+use Rattle.std.specs.Prelude.{if◌then◌else◌}
 use mathlib.Core.Path.{◌≡◌, refl, sym, ap, ◌∙◌}
 use mathlib.Core.Bool.{Bool, true, false, not, ◌&&◌, ◌||◌, and-false, or-false}
 use mathlib.Core.List.{[], ◌∷◌}
@@ -8,7 +9,7 @@ use native.Mathlib.Omega.{arith}
 use lib.Dec.{eqb, eqb-suc-zero}
 use borrow.Author.Tests.{eqb-true}
 use Rattle.cols_spec.specs.Places.{At, find}
-use Rattle.cols_spec.specs.Sets.{if◌then◌else◌, has, without, only, seats, all, any, member}
+use Rattle.cols_spec.specs.Sets.{has, without, only, seats, all, any, member}
 use Rattle.codec_table.specs.Named.{Message, TGrq, TGcf, TIrq, TIcf, TRrq, TRcf, token_not_available, token_not_possessed, too_many_tokens}
 use Rattle.out_records.specs.Records.{to}
 use Rattle.cols_spec.proofs.Digits.{has_high, has_with, has_only, has_without}

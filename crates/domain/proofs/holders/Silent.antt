@@ -1,11 +1,12 @@
 -- The messages that history does not read: channels, polls and tests, and heights. Assumes nothing.
+use Rattle.std.specs.Prelude.{if◌then◌else◌}
 use mathlib.Core.Path.{◌≡◌, refl}
 use mathlib.Core.Bool.{Bool, true, false}
 use mathlib.Core.List.{List, [], ◌∷◌}
 use Prim.Native.Nat.{ℕ, zero, suc}
 use lib.Dec.{eqb, ltb}
 use Rattle.cols_spec.specs.Places.{Place, At, Nowhere, find}
-use Rattle.cols_spec.specs.Sets.{if◌then◌else◌, all, null, any}
+use Rattle.cols_spec.specs.Sets.{all, null, any}
 use Rattle.codec_table.specs.Named.{Message, CDin, CAin, CEin}
 use Rattle.out_records.specs.Records.{Sent, to, tell}
 use Rattle.domain.specs.Tables.{Users, Channels, Domain, put_channels, channel}

@@ -1,4 +1,5 @@
 -- A grab or an inhibit is told too-many-tokens exactly where a free token is asked for at the limit. Assumes nothing.
+use Rattle.std.specs.Prelude.{if◌then◌else◌}
 use mathlib.Core.Path.{◌≡◌, refl, sym, ap, ◌∙◌}
 use mathlib.Core.Bool.{Bool, true, false, not, ◌&&◌, or-false, not-not}
 use mathlib.Core.List.{List, [], ◌∷◌}
@@ -9,7 +10,7 @@ use lib.Dec.{eqb, leb, ltb}
 use lib.ListN.{length}
 use borrow.Author.Tests.{eq-eqb, eqb-true}
 use Rattle.cols_spec.specs.Places.{Place, At, Nowhere, find}
-use Rattle.cols_spec.specs.Sets.{if◌then◌else◌, any, member, only, seats}
+use Rattle.cols_spec.specs.Sets.{any, member, only, seats}
 use Rattle.codec_table.specs.Named.{Message, successful, token_not_available, too_many_tokens}
 use Rattle.out_records.specs.Records.{Sent, to, records}
 use Rattle.cols_spec.proofs.Bools.{none≢some}

@@ -1,4 +1,5 @@
 -- A new user, and a new connection, leave the tables sound. Assumes nothing.
+use Rattle.std.specs.Prelude.{if◌then◌else◌}
 use mathlib.Core.Path.{◌≡◌, refl, ap, ◌∙◌}
 use mathlib.Core.Bool.{Bool, true, false}
 use mathlib.Core.List.{[], ◌∷◌}
@@ -7,7 +8,7 @@ use Prim.Native.Nat.{ℕ, ◌≤◌, ◌<◌}
 use native.Mathlib.Omega.{arith}
 use lib.ListN.{get_or}
 use borrow.Author.Tests.{leb-false}
-use Rattle.cols_spec.specs.Sets.{if◌then◌else◌, has, with, connections}
+use Rattle.cols_spec.specs.Sets.{has, with, connections}
 use Rattle.cols_spec.specs.Places.{used}
 use Rattle.cols_spec.proofs.Digits.{those_lt}
 use Rattle.cols_spec.proofs.Marks.{in_with, has_low, with_old, marks_map, marks_none}

@@ -1,4 +1,5 @@
 -- A token's users are seated, and TGrq, TIrq, TRrq, TVrq, TVrs leave the tables sound. Assumes nothing.
+use Rattle.std.specs.Prelude.{if◌then◌else◌}
 use mathlib.Core.Path.{◌≡◌, refl, sym, ap, ◌∙◌, subst⁻¹}
 use mathlib.Core.Bool.{Bool, true, false, false≢true}
 use mathlib.Core.List.{[], ◌∷◌}
@@ -7,7 +8,7 @@ use native.Mathlib.Omega.{arith}
 use lib.Dec.{eqb}
 use lib.ListN.{length, get_or}
 use borrow.Author.Tests.{eqb-false, leb-false}
-use Rattle.cols_spec.specs.Sets.{if◌then◌else◌, has, with, without, only, seats}
+use Rattle.cols_spec.specs.Sets.{has, with, without, only, seats}
 use Rattle.cols_spec.specs.Places.{Place, At, Nowhere, find, found, spare, seat, used, store, load}
 use Rattle.cols_spec.proofs.Marks.{Marks, has_pos, marks_only, marks_with, marks_without, marks_minus, only_self, with_new}
 use Rattle.cols_spec.proofs.Rows.{find_holds, find_none}

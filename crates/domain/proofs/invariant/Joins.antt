@@ -1,4 +1,5 @@
 -- Requests about channels leave the tables sound. Assumes nothing.
+use Rattle.std.specs.Prelude.{if◌then◌else◌}
 use mathlib.Core.Path.{◌≡◌, refl, sym, ap, ◌∙◌}
 use mathlib.Core.Bool.{Bool, true, false, ◌||◌, false≢true}
 use mathlib.Core.List.{List, [], ◌∷◌}
@@ -8,7 +9,7 @@ use native.Mathlib.Omega.{arith}
 use lib.Dec.{eqb, ltb}
 use lib.ListN.{length, get_or}
 use borrow.Author.Tests.{eqb-true, eqb-false, ltb-false}
-use Rattle.cols_spec.specs.Sets.{if◌then◌else◌, any, null, member, has, with, without, minus, union, only, connections, seats}
+use Rattle.cols_spec.specs.Sets.{any, null, member, has, with, without, minus, union, only, connections, seats}
 use Rattle.cols_spec.specs.Places.{Place, At, Nowhere, find}
 use Rattle.cols_spec.proofs.Bools.{or_elim, some_is}
 use Rattle.cols_spec.proofs.Below.{any_elim}

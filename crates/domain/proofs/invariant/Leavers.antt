@@ -1,4 +1,5 @@
 -- Users that leave together leave the tables sound. Assumes nothing.
+use Rattle.std.specs.Prelude.{if◌then◌else◌}
 use mathlib.Core.Path.{◌≡◌, refl, sym, ap, ◌∙◌, subst⁻¹}
 use mathlib.Core.Bool.{Bool, true, false, ◌&&◌, false≢true}
 use mathlib.Core.List.{List}
@@ -8,7 +9,7 @@ use native.Mathlib.Omega.{arith}
 use lib.Dec.{eqb}
 use lib.ListN.{length, get_or}
 use borrow.Author.Tests.{eq-eqb}
-use Rattle.cols_spec.specs.Sets.{if◌then◌else◌, null, once, has, with, without, minus, meet, connections, seats, member}
+use Rattle.cols_spec.specs.Sets.{null, once, has, with, without, minus, meet, connections, seats, member}
 use Rattle.cols_spec.specs.Places.{Place, At, Nowhere, find, found, in_order, turns_to}
 use Rattle.cols_spec.proofs.Bools.{some_is, none≢some}
 use Rattle.cols_spec.proofs.Digits.{those_lt}

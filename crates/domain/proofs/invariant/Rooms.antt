@@ -1,4 +1,5 @@
 -- Changes of the channels' table that leave the tables sound: one channel set, ended or made, and all at once. Assumes nothing.
+use Rattle.std.specs.Prelude.{if◌then◌else◌}
 use mathlib.Core.Path.{◌≡◌, refl, sym, ap, ◌∙◌, subst, subst⁻¹}
 use mathlib.Core.Bool.{Bool, true, false, ◌&&◌, false≢true}
 use mathlib.Core.List.{[]}
@@ -8,7 +9,7 @@ use native.Mathlib.Omega.{arith}
 use lib.Dec.{eqb}
 use lib.ListN.{length, get_or}
 use borrow.Author.Tests.{ne_eqb, eqb-true, eqb-false, leb-false}
-use Rattle.cols_spec.specs.Sets.{if◌then◌else◌, has, any}
+use Rattle.cols_spec.specs.Sets.{has, any}
 use Rattle.cols_spec.specs.Places.{used, turns_to}
 use Rattle.cols_spec.proofs.Bools.{and_parts, none≢some, some_is}
 use Rattle.cols_spec.proofs.Below.{any_upto}

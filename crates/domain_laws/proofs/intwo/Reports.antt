@@ -1,4 +1,5 @@
 -- T-08: users of one connection leave equal tables, whether they leave in one message or in two. Assumes nothing.
+use Rattle.std.specs.Prelude.{if◌then◌else◌}
 use mathlib.Core.Path.{◌≡◌, refl, sym, ap, ap₂, ◌∙◌, subst}
 use mathlib.Core.Bool.{Bool, true, false, not, ◌&&◌, ◌||◌, true≢false, false≢true, or-false}
 use mathlib.Core.List.{List, [], ◌∷◌}
@@ -7,7 +8,7 @@ use native.Mathlib.Omega.{arith}
 use lib.Dec.{eqb, ltb}
 use lib.ListN.{length, get_or}
 use borrow.Author.Tests.{eq-eqb}
-use Rattle.cols_spec.specs.Sets.{if◌then◌else◌, any, null, once, has, member}
+use Rattle.cols_spec.specs.Sets.{any, null, once, has, member}
 use Rattle.cols_spec.specs.Places.{At, Nowhere, find, found}
 use Rattle.cols_spec.proofs.Bools.{and_parts}
 use Rattle.cols_spec.proofs.Digits.{mask_ext}

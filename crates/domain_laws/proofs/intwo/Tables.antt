@@ -1,4 +1,5 @@
 -- Users that leave one after the other leave the tables that they leave together. Assumes nothing.
+use Rattle.std.specs.Prelude.{if◌then◌else◌}
 use mathlib.Core.Path.{◌≡◌, refl, sym, ap, ap₂, ◌∙◌, fun_ext}
 use mathlib.Core.Bool.{Bool, true, false, not, ◌&&◌, ◌||◌, false≢true}
 use mathlib.Core.List.{[]}
@@ -8,7 +9,7 @@ use native.Mathlib.Omega.{arith}
 use lib.Dec.{eqb}
 use lib.ListN.{length, get_or}
 use borrow.Author.Tests.{ne_eqb, eqb-true}
-use Rattle.cols_spec.specs.Sets.{if◌then◌else◌, any, has, those, with, minus, meet, seats, connections, upto}
+use Rattle.cols_spec.specs.Sets.{any, has, those, with, minus, meet, seats, connections, upto}
 use Rattle.cols_spec.specs.Places.{At, find}
 use Rattle.cols_spec.proofs.Bools.{and_parts, and_both, or_parts}
 use Rattle.cols_spec.proofs.Below.{any_same, any_upto, any_hit}

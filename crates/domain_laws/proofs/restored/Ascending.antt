@@ -1,4 +1,5 @@
 -- Ascending lists of ids are equal where they have the same members; and rows whose ids ascend are what their ids pick. Assumes nothing.
+use Rattle.std.specs.Prelude.{if◌then◌else◌}
 use mathlib.Core.Path.{◌≡◌, refl, sym, ap, ◌∙◌}
 use mathlib.Core.Bool.{Bool, true, false, false≢true, or-true}
 use mathlib.Core.List.{List, [], ◌∷◌, ◌++◌, map}
@@ -8,7 +9,7 @@ use native.Mathlib.Omega.{arith}
 use lib.Dec.{eqb, ltb}
 use lib.ListN.{length}
 use borrow.Author.Tests.{eq-eqb, ne_eqb, eqb-true, ltb-true, lt-ltb}
-use Rattle.cols_spec.specs.Sets.{if◌then◌else◌, keep, any, all, each, member}
+use Rattle.cols_spec.specs.Sets.{keep, any, all, each, member}
 use Rattle.cols_spec.specs.Places.{next, rising, in_order}
 use Rattle.cols_spec.proofs.Bools.{and_parts, and_both, or_elim, or_parts, some_is, none≢some}
 use Rattle.cols_spec.proofs.Kept.{next_is_there}

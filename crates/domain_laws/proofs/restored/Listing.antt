@@ -1,5 +1,6 @@
 -- Rows at the first places of a table: what is found of an id is what its row says, and free places are blank. Ids in order stand once, and are as many as are in
 -- use at most. Assumes nothing.
+use Rattle.std.specs.Prelude.{if◌then◌else◌}
 use mathlib.Core.Path.{◌≡◌, refl, sym, ap, ◌∙◌}
 use mathlib.Core.Bool.{Bool, true, false, not, ◌||◌, false≢true, or-true}
 use mathlib.Core.List.{List, [], ◌∷◌, ◌++◌, map}
@@ -9,7 +10,7 @@ use native.Mathlib.Omega.{arith}
 use lib.Dec.{eqb, ltb}
 use lib.ListN.{length, get_or, replicate, length-append, length-replicate, length-map}
 use borrow.Author.Tests.{eq-eqb, ne_eqb, eqb-true, eqb-false}
-use Rattle.cols_spec.specs.Sets.{if◌then◌else◌, keep, any, each, member}
+use Rattle.cols_spec.specs.Sets.{keep, any, each, member}
 use Rattle.cols_spec.specs.Places.{Place, At, Nowhere, first, find, next, rising, in_order, distinct, used}
 use Rattle.cols_spec.proofs.Bools.{and_both, or_elim}
 use Rattle.cols_spec.proofs.Places.{shift, first_shift}

@@ -1,4 +1,5 @@
 -- The tables of the image of good tables are good. Assumes nothing.
+use Rattle.std.specs.Prelude.{if◌then◌else◌}
 use mathlib.Core.Path.{◌≡◌, refl, sym, ap, ◌∙◌, subst, subst⁻¹}
 use mathlib.Core.Bool.{Bool, true, false, true≢false}
 use mathlib.Core.List.{map}
@@ -8,7 +9,7 @@ use native.Mathlib.Omega.{arith}
 use lib.Dec.{eqb}
 use lib.ListN.{get_or}
 use borrow.Author.Tests.{ne_eqb, eqb-false, not-true}
-use Rattle.cols_spec.specs.Sets.{if◌then◌else◌, member}
+use Rattle.cols_spec.specs.Sets.{member}
 use Rattle.cols_spec.specs.Places.{Place, At, Nowhere, find, in_order}
 use Rattle.cols_spec.proofs.Bools.{some_is, none≢some}
 use Rattle.cols_spec.proofs.Marks.{marks_map, in_with}

@@ -1,4 +1,5 @@
 -- The images that are taken are exactly those of good tables. Assumes nothing.
+use Rattle.std.specs.Prelude.{if◌then◌else◌}
 use mathlib.Core.Path.{◌≡◌, refl, sym, ap, ap₂, ◌∙◌}
 use mathlib.Core.Bool.{Bool, true, false, ◌||◌, and-eq-true_iff, true≢false, false≢true}
 use mathlib.Core.List.{List, [], ◌∷◌, ◌++◌, map}
@@ -8,7 +9,7 @@ use native.Mathlib.Omega.{arith}
 use lib.Dec.{eqb}
 use lib.ListN.{length, get_or, length-map, replicate}
 use borrow.Author.Tests.{leb-true, le-leb, not-true}
-use Rattle.cols_spec.specs.Sets.{if◌then◌else◌, has, any, all, each, member}
+use Rattle.cols_spec.specs.Sets.{has, any, all, each, member}
 use Rattle.cols_spec.specs.Places.{Place, At, Nowhere, find, found, in_order, number}
 use Rattle.cols_spec.proofs.Bools.{and_parts, and_both, or_elim, none≢some}
 use Rattle.cols_spec.proofs.Members.{member_append}

@@ -1,4 +1,5 @@
 -- A new user, on tables that say the same: the same records, and tables that say the same. Assumes nothing.
+use Rattle.std.specs.Prelude.{if◌then◌else◌}
 use mathlib.Core.Path.{◌≡◌, refl, sym, ap, ap₂, ◌∙◌}
 use mathlib.Core.Bool.{Bool, true, false, true≢false}
 use mathlib.Core.Option.{Option, none, some}
@@ -8,7 +9,7 @@ use lib.Dec.{eqb}
 use lib.ListN.{length, get_or}
 use lib.Seq.{get_or-set_same, get_or-set_other}
 use borrow.Author.Tests.{ne_eqb, leb-false}
-use Rattle.cols_spec.specs.Sets.{if◌then◌else◌, has}
+use Rattle.cols_spec.specs.Sets.{has}
 use Rattle.cols_spec.specs.Places.{Place, At, Nowhere, find, spare, used, store}
 use Rattle.cols_spec.proofs.Marks.{marks_map}
 use Rattle.cols_spec.proofs.Rows.{At≢Nowhere, At_inj, find_holds, find_gone, find_there, first_holds, spare_there}

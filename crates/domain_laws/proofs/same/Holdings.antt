@@ -1,11 +1,12 @@
 -- Tokens whose states name the same users: what each request makes of them, and what is sent. Assumes nothing.
+use Rattle.std.specs.Prelude.{if◌then◌else◌}
 use mathlib.Core.Path.{◌≡◌, refl, ap}
 use mathlib.Core.Bool.{Bool, true, false, true≢false, false≢true}
 use mathlib.Core.List.{List, []}
 use Prim.Native.Nat.{ℕ}
 use native.Mathlib.Omega.{arith}
 use lib.Dec.{eqb}
-use Rattle.cols_spec.specs.Sets.{if◌then◌else◌, has, only, seats}
+use Rattle.cols_spec.specs.Sets.{has, only, seats}
 use Rattle.codec_table.specs.Named.{self_recipient, other_giving}
 use Rattle.domain.specs.declared.token.Holding.{Holding}
 use Rattle.domain.specs.declared.token.Holding.TheVariants.{Free, Grabbed, Inhibited, Giving, Given}

@@ -1,4 +1,5 @@
 -- Requests about channels, on tables that say the same: the same records, and channels that say the same. Assumes nothing.
+use Rattle.std.specs.Prelude.{if◌then◌else◌}
 use mathlib.Core.Path.{◌≡◌, refl, sym, ap, ap₂, ◌∙◌, fun_ext}
 use mathlib.Core.Bool.{Bool, true, false}
 use mathlib.Core.List.{List, [], ◌∷◌}
@@ -8,7 +9,7 @@ use native.Mathlib.Omega.{arith}
 use lib.Dec.{eqb, ltb}
 use lib.ListN.{get_or}
 use borrow.Author.Tests.{eqb-true, eqb-false, leb-false}
-use Rattle.cols_spec.specs.Sets.{if◌then◌else◌, keep, any, null, each, below, member, once, has, with, without, meet, connections}
+use Rattle.cols_spec.specs.Sets.{keep, any, null, each, below, member, once, has, with, without, meet, connections}
 use Rattle.cols_spec.specs.Places.{Place, At, Nowhere, find, found, spare, used, load}
 use Rattle.cols_spec.proofs.Rows.{find_none}
 use Rattle.cols_spec.proofs.Table.{Table, new_place}

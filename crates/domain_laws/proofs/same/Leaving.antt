@@ -1,4 +1,5 @@
 -- Leaving, on tables that say the same: the same records, and tables that say the same. Assumes nothing.
+use Rattle.std.specs.Prelude.{if◌then◌else◌}
 use mathlib.Core.Path.{◌≡◌, refl, sym, ap, ap₂, ◌∙◌, fun_ext, subst₂}
 use mathlib.Core.Bool.{Bool, true, false, ◌&&◌}
 use mathlib.Core.List.{List, [], ◌++◌}
@@ -6,7 +7,7 @@ use mathlib.Core.Option.{Option, none, some}
 use Prim.Native.Nat.{ℕ}
 use lib.Dec.{eqb}
 use lib.ListN.{get_or}
-use Rattle.cols_spec.specs.Sets.{if◌then◌else◌, keep, null, once, has, without, minus, meet, seats, connections}
+use Rattle.cols_spec.specs.Sets.{keep, null, once, has, without, minus, meet, seats, connections}
 use Rattle.cols_spec.specs.Places.{Place, At, Nowhere, find, found, in_order, turns_to}
 use Rattle.cols_spec.proofs.Marks.{marks_minus}
 use Rattle.cols_spec.proofs.Rows.{At≢Nowhere, At_inj, find_holds, find_there}

@@ -1,4 +1,5 @@
 -- Requests on tables that say the same: an attached user asks in both, or in neither; what is done sends the same. Assumes nothing.
+use Rattle.std.specs.Prelude.{if◌then◌else◌}
 use mathlib.Core.Path.{◌≡◌, refl, sym, ap, ◌∙◌}
 use mathlib.Core.Bool.{Bool, true, false, not, true≢false, false≢true}
 use mathlib.Core.List.{List}
@@ -7,7 +8,7 @@ use native.Mathlib.Omega.{arith}
 use lib.Dec.{eqb}
 use lib.ListN.{get_or}
 use borrow.Author.Tests.{eqb-true, eqb-false, ne_eqb}
-use Rattle.cols_spec.specs.Sets.{if◌then◌else◌, member}
+use Rattle.cols_spec.specs.Sets.{member}
 use Rattle.cols_spec.specs.Places.{Place, At, Nowhere, find, found, used, unused}
 use Rattle.cols_spec.proofs.Bools.{and_parts, and_both}
 use Rattle.cols_spec.proofs.Rows.{Apart, find_holds}

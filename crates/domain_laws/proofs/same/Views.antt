@@ -1,4 +1,5 @@
 -- What the lists of a view say of each id is what the tables say. So tables say the same exactly where their lists are equal. Assumes nothing.
+use Rattle.std.specs.Prelude.{if◌then◌else◌}
 use mathlib.Core.Path.{◌≡◌, refl, sym, ap, ◌∙◌}
 use mathlib.Core.Bool.{Bool, true, false, ◌||◌}
 use mathlib.Core.List.{List, [], ◌∷◌, ◌++◌}
@@ -6,7 +7,7 @@ use mathlib.Core.Option.{Option, none, some}
 use Prim.Native.Nat.{ℕ}
 use lib.Dec.{eqb}
 use borrow.Author.Tests.{eqb-true}
-use Rattle.cols_spec.specs.Sets.{if◌then◌else◌, any, each, member}
+use Rattle.cols_spec.specs.Sets.{any, each, member}
 use Rattle.cols_spec.specs.Places.{Place, At, Nowhere, find, in_order, load}
 use Rattle.domain.specs.Cells.{no_token, hold}
 use Rattle.domain.specs.Tables.{Domain, state}

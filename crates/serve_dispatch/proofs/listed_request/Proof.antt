@@ -1,3 +1,4 @@
+use Rattle.std.specs.Prelude.{if◌then◌else◌}
 use mathlib.Core.Logic.{◌⊎◌, inl, inr}
 use mathlib.Core.Path.{◌≡◌, refl}
 use mathlib.Core.Bool.{Bool, true, false, not}
@@ -7,7 +8,6 @@ use native.Mathlib.Omega.{arith}
 use borrow.Author.Tests.{ne_eqb}
 use lib.Dec.{eqb}
 use lib.ListN.{take}
-use Rattle.cols_spec.specs.Sets.{if◌then◌else◌}
 use Rattle.domain.specs.Tables.{Domain, put_channels, channels_of, domain_of, grant}
 use Rattle.domain.specs.Leaving.{detach, close}
 use Rattle.domain.specs.Channels.{admit, expel}

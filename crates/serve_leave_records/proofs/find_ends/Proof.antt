@@ -1,11 +1,11 @@
 -- At a private channel's place, those before are marked.
+use Rattle.std.specs.Prelude.{if◌then◌else◌}
 use Prim.Native.Nat.{◌+◌, ◌-◌}
 use mathlib.Core.Path.{◌≡◌, refl, ap, ◌∙◌}
 use mathlib.Core.Bool.{Bool}
 use native.Mathlib.Omega.{arith}
 use lib.ListN.{length, get_or}
 use borrow.Author.Rules.{rules}
-use Rattle.cols_spec.specs.Sets.{if◌then◌else◌}
 use Rattle.cols_spec.proofs.Nearest.{nearest_cell}
 use Rattle.serve_leave_records.specs.Parts.{ends_there}
 use Rattle.serve_leave_records.specs.Endings.{Marks}

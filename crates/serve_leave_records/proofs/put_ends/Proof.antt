@@ -1,9 +1,10 @@
 -- The ids that the marks or the column bring are all that count.
+use Rattle.std.specs.Prelude.{if◌then◌else◌}
 use Prim.Native.Nat.{◌≤◌}
 use native.Mathlib.Omega.{arith}
 use lib.ListN.{length}
 use borrow.Author.Rules.{rules}
-use Rattle.cols_spec.specs.Sets.{if◌then◌else◌, each}
+use Rattle.cols_spec.specs.Sets.{each}
 use Rattle.cols_spec.specs.Places.{in_order, picked}
 use Rattle.out_records.specs.Records.{records}
 use Rattle.out_records.proofs.Laying.{Onward, onward_start, onward_step, onward_end}
