@@ -1,7 +1,7 @@
 // What an event is answered with: the reply, and how many octets are sent.
 use crate::numbers::Reply;
 
-#[derive(Drop)]
+#[derive(Clone, Copy)]
 pub struct Answer {
     pub reply: Reply,
     pub sent: usize,

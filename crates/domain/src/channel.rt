@@ -2,7 +2,7 @@
 
 // As its columns hold it: role 1 static, 2 user id, 3 private, 4 assigned; of a private one the manager's place and the admitted users; the
 // connections joined.
-#[derive(Drop)]
+#[derive(Clone, Copy)]
 pub struct Channel {
     pub role: u8,
     pub chair: u8,
@@ -10,7 +10,7 @@ pub struct Channel {
     pub marks: u16,
 }
 
-#[derive(Drop)]
+#[derive(Clone, Copy)]
 pub enum Kind {
     Static,
     User,

@@ -7,7 +7,7 @@ pub mod numbers;
 pub mod token;
 
 // The start limits.
-#[derive(Drop)]
+#[derive(Clone, Copy)]
 pub struct Limits {
     pub channels: u8,
     pub users: u8,

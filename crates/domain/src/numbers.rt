@@ -1,7 +1,7 @@
 // The names behind the numbers of document 01 and T.125.
 
 // What an event is answered with.
-#[derive(Drop)]
+#[derive(Clone, Copy)]
 pub enum Reply {
     Done,
     Ignored,
@@ -18,7 +18,7 @@ pub enum Reply {
 }
 
 // The results that a top provider gives of itself.
-#[derive(Drop)]
+#[derive(Clone, Copy)]
 pub enum Result {
     Successful,
     NoSuchChannel,
@@ -32,7 +32,7 @@ pub enum Result {
     TooManyUsers,
 }
 
-#[derive(Drop)]
+#[derive(Clone, Copy)]
 pub enum Status {
     NotInUse,
     SelfGrabbed,
@@ -45,7 +45,7 @@ pub enum Status {
 }
 
 // Why users leave, as DUin and DPum tell it.
-#[derive(Drop)]
+#[derive(Clone, Copy)]
 pub enum Reason {
     DomainDisconnected,
     ProviderInitiated,
@@ -55,7 +55,7 @@ pub enum Reason {
 }
 
 // The diagnostics of an RJum that a top provider sends.
-#[derive(Drop)]
+#[derive(Clone, Copy)]
 pub enum Diagnostic {
     ForbiddenUpward,
     InvalidPer,

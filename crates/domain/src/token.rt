@@ -2,13 +2,13 @@
 use crate::numbers::Result;
 
 // As its columns hold it: mode 1 grabbed, 2 inhibited, 3 giving, 4 given; the value is the user, the inhibitors, or giver * 64 + recipient.
-#[derive(Drop)]
+#[derive(Clone, Copy)]
 pub struct Token {
     pub mode: u8,
     pub value: u64,
 }
 
-#[derive(Drop)]
+#[derive(Clone, Copy)]
 pub enum Holding {
     Free,
     Grabbed(u8),
@@ -18,7 +18,7 @@ pub enum Holding {
 }
 
 // A request fails with a result and changes nothing, or succeeds and the state is then this.
-#[derive(Drop)]
+#[derive(Clone, Copy)]
 pub enum Turned {
     Fails(Result),
     Turns(Holding),

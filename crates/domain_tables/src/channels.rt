@@ -2,7 +2,7 @@
 ghost use Rattle.std.specs.Prelude.{◌≡◌, get_or, set};
 ghost use Rattle.domain.specs.Cells.{no_channel};
 ghost use Rattle.domain.specs.Tables.{add_channel, end_channel};
-ghost use Rattle.domain.specs.Lent.{cells_after, cells_before, channels_after, channels_before};
+ghost use Rattle.domain.specs.Lent.{cells_after, cells_before, cells_now, channels_after, channels_before};
 
 use domain::channel::Channel;
 
@@ -14,7 +14,7 @@ pub fn channel_at(
     joined: &[u16; 128],
     j: usize,
 ) -> Channel
-    ensures { result ≡ get_or (cells_before channel_kinds managers admitted joined) j no_channel }
+    ensures { result ≡ get_or (cells_now channel_kinds managers admitted joined) j no_channel }
 {
     let rs = &channel_kinds[..];
     let cs = &managers[..];

@@ -4,7 +4,7 @@ ghost use Rattle.cols_spec.specs.Places.{store as store_at, load, found, spare};
 ghost use Rattle.domain_tables.specs.Numbered.{place, set_at};
 ghost use Rattle.domain.specs.Cells.{hold, no_token};
 ghost use Rattle.domain.specs.Tables.{token_cells, state as state_in};
-ghost use Rattle.domain.specs.Lent.{tokens_after, tokens_before};
+ghost use Rattle.domain.specs.Lent.{tokens_after, tokens_before, tokens_now};
 
 use domain::token::{Holding, Token};
 
@@ -30,7 +30,7 @@ pub fn state(
     token_values: &[u64; 64],
     k: u16,
 ) -> Holding
-    ensures { result ≡ state_in (tokens_before token_ids token_states token_values) k }
+    ensures { result ≡ state_in (tokens_now token_ids token_states token_values) k }
 {
     state_at(token_states, token_values, cols_find::find(token_ids, k))
 }

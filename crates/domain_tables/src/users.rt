@@ -2,11 +2,11 @@
 ghost use Rattle.std.specs.Prelude.{◌≡◌, ◌≤◌, get_or};
 ghost use Rattle.cols_spec.specs.Places.{number};
 ghost use Rattle.domain.specs.Tables.{attached as attached_in, add_user, hosts as hosts_of};
-ghost use Rattle.domain.specs.Lent.{users_after, users_before};
+ghost use Rattle.domain.specs.Lent.{users_after, users_before, users_now};
 
 // The place of user u, where u is attached on p; 64 is nowhere.
 pub fn attached(user_ids: &[u16; 64], user_links: &[u8; 64], p: u8, u: u16) -> usize
-    ensures { (result ≡ number 64 (attached_in (users_before user_ids user_links) p u)) × (result ≤ 64) }
+    ensures { (result ≡ number 64 (attached_in (users_now user_ids user_links) p u)) × (result ≤ 64) }
 {
     let i = cols_find::find(user_ids, u);
     let at = &user_links[..];
@@ -31,7 +31,7 @@ pub fn add_user(user_ids: &mut [u16; 64], user_links: &mut [u8; 64], u: u16, p: 
 
 // The connections that have a user of a mask of places: the lowest place is taken out of it until none is left.
 pub fn hosts(user_ids: &[u16; 64], user_links: &[u8; 64], who: u64) -> u16
-    ensures { result ≡ hosts_of (users_before user_ids user_links) who }
+    ensures { result ≡ hosts_of (users_now user_ids user_links) who }
 {
     let at = &user_links[..];
     let mut m: u16 = 0;

@@ -1,7 +1,7 @@
 // A trace in words, frame by frame: what came, the reply, what was sent, and which tokens changed.
 ghost use Rattle.std.specs.Prelude.{◌≡◌, [], ◌∷◌, ◌≤◌, length, take};
 ghost use Rattle.trace_frames.specs.Frames.{front, size_of};
-ghost use Rattle.domain.specs.Lent.{tokens_before};
+ghost use Rattle.domain.specs.Lent.{tokens_before, tokens_now};
 ghost use Rattle.trace_io.specs.Lines.{decimal, Says};
 ghost use Rattle.explain_stop.specs.StopLine.{Tells};
 ghost use Rattle.explain_frame.specs.Sent.{sent_texts};
@@ -205,7 +205,7 @@ pub fn put_frame(
 ) -> usize
     ensures { Tells (message_in s.now (front s.now)) (frame_texts number s.now report room.now user_ids.now
         (tokens_before old_token_ids old_token_states old_token_values)
-        (tokens_before token_ids token_states token_values)) out.old filled out.new result
+        (tokens_now token_ids token_states token_values)) out.old filled out.new result
         × (old_token_ids.new ≡ token_ids.now) × (old_token_states.new ≡ token_states.now) × (old_token_values.new ≡ token_values.now) }
 {
     let a = put_count(out, filled, b"frame ", number);

@@ -2,7 +2,7 @@
 ghost use Rattle.std.specs.Prelude.{◌≡◌, ◌∷◌, ◌<◌, get_or, set, if◌then◌else◌};
 ghost use Rattle.cols_spec.specs.Sets.{has};
 ghost use Rattle.cols_spec.specs.Places.{in_order};
-ghost use Rattle.domain.specs.Lent.{tokens_before};
+ghost use Rattle.domain.specs.Lent.{tokens_before, tokens_now};
 ghost use Rattle.trace_io.specs.Lines.{Says};
 ghost use Rattle.explain_message.specs.Messages.{id_texts};
 ghost use Rattle.explain_tokens.specs.Holders.{over, picked_from, holding_texts, token_texts, state_texts, differ, changed_ids, change_texts, table_texts};
@@ -113,7 +113,7 @@ fn put_tokens(
     token_values: &[u64; 64],
     list: &[u16],
 ) -> usize
-    ensures { Says out.old filled (over (state_texts user_ids.now (tokens_before token_ids token_states token_values)) (in_order list.now)) out.new result }
+    ensures { Says out.old filled (over (state_texts user_ids.now (tokens_now token_ids token_states token_values)) (in_order list.now)) out.new result }
 {
     let mut at = filled;
     let mut low: u16 = 0;
@@ -173,7 +173,7 @@ fn changes(
     old_token_values: &mut [u64; 64],
 ) -> [u16; 128]
     ensures { (result ≡ changed_ids (tokens_before old_token_ids old_token_states old_token_values)
-        (tokens_before token_ids token_states token_values))
+        (tokens_now token_ids token_states token_values))
         × (old_token_ids.new ≡ token_ids.now) × (old_token_states.new ≡ token_states.now) × (old_token_values.new ≡ token_values.now) }
 {
     // How long the columns are: what the loop keeps.
@@ -216,7 +216,7 @@ pub fn put_changes(
     old_token_values: &mut [u64; 64],
 ) -> usize
     ensures { Says out.old filled (change_texts user_ids.now (tokens_before old_token_ids old_token_states old_token_values)
-        (tokens_before token_ids token_states token_values)) out.new result
+        (tokens_now token_ids token_states token_values)) out.new result
         × (old_token_ids.new ≡ token_ids.now) × (old_token_states.new ≡ token_states.now) × (old_token_values.new ≡ token_values.now) }
 {
     let list = changes(
@@ -247,7 +247,7 @@ pub fn put_table(
     token_states: &[u8; 64],
     token_values: &[u64; 64],
 ) -> usize
-    ensures { Says out.old filled (table_texts user_ids.now (tokens_before token_ids token_states token_values)) out.new result }
+    ensures { Says out.old filled (table_texts user_ids.now (tokens_now token_ids token_states token_values)) out.new result }
 {
     let a = say(out, filled, b"tokens in use: ");
     let b = say_number(out, a, cols_find::used(token_ids) as u64);

@@ -7,7 +7,7 @@ ghost use Rattle.cols_spec.specs.Swept.{Turns, anywhere};
 ghost use Rattle.out_records.specs.Records.{to};
 ghost use Rattle.domain.specs.Cells.{no_channel, kind, channel_of};
 ghost use Rattle.domain.specs.Tables.{Users, Channels, channel, add_channel, sweep_channels, lapses, at_limit, grant};
-ghost use Rattle.domain.specs.Lent.{cells_after, cells_before, channels_after, channels_after_with, channels_before, channels_before_with, users_after, users_before};
+ghost use Rattle.domain.specs.Lent.{cells_after, cells_before, cells_now, channels_after, channels_after_with, channels_before, channels_before_with, channels_now, users_after, users_before, users_now};
 ghost use Rattle.domain.specs.Effects.{done, settle, answered};
 ghost use Rattle.domain.specs.Channels.{attach as attach_of, join as join_of, join_at, join_new, may, joined as joined_in, left, leave_channels as leave_of};
 
@@ -194,7 +194,7 @@ pub fn join(
 ) -> Answer
     ensures { let cs = channels_before channel_ids channel_kinds managers admitted joined in
         answered result (channels_after channel_ids channel_kinds managers admitted joined) out.new
-        ≡ settle cs (join_of (grant cs) (at_limit limit cs.ids) (users_before user_ids user_links) cs p u c) out.old }
+        ≡ settle cs (join_of (grant cs) (at_limit limit cs.ids) (users_now user_ids user_links) cs p u c) out.old }
 {
     let i = serve_reply::initiator(user_ids, user_links, p, u);
     if 64 <= i {
@@ -239,7 +239,7 @@ fn is_joined(
     p: u8,
     c: u16,
 ) -> bool
-    ensures { result ≡ joined_in (channels_before channel_ids channel_kinds managers admitted joined) p c }
+    ensures { result ≡ joined_in (channels_now channel_ids channel_kinds managers admitted joined) p c }
 {
     let j = cols_find::find(channel_ids, c);
     if j < 128 {
@@ -259,7 +259,7 @@ fn any_joined(
     p: u8,
     listed: &[u16],
 ) -> bool
-    ensures { result ≡ any (joined_in (channels_before channel_ids channel_kinds managers admitted joined) p) listed.now }
+    ensures { result ≡ any (joined_in (channels_now channel_ids channel_kinds managers admitted joined) p) listed.now }
 {
     let mut i = 0;
     while i < listed.len() {
@@ -341,7 +341,7 @@ fn width(
     admitted: &[u64; 128],
     joined: &[u16; 128],
 ) -> usize
-    ensures { (result ≡ 128) × (length channel_ids.now ≡ 128) × (length (cells_before channel_kinds managers admitted joined) ≡ 128) }
+    ensures { (result ≡ 128) × (length channel_ids.now ≡ 128) × (length (cells_now channel_kinds managers admitted joined) ≡ 128) }
 {
     let a = &channel_ids[..];
     let b = &channel_kinds[..];

@@ -6,7 +6,7 @@ ghost use Rattle.cols_spec.specs.Places.{in_order};
 ghost use Rattle.out_records.specs.Records.{records};
 ghost use Rattle.out_records.specs.Out.{Puts};
 ghost use Rattle.domain.specs.declared.Limits.{Limits};
-ghost use Rattle.domain.specs.Lent.{domain_after, domain_before, domain_before_with, users_before};
+ghost use Rattle.domain.specs.Lent.{domain_after, domain_before, domain_now_with, users_now};
 ghost use Rattle.domain.specs.Effects.{settle, answered};
 ghost use Rattle.domain.specs.Leaving.{those_on, farewell as farewell_of, leave as leave_of, detach as detach_of, close as close_of};
 ghost use Rattle.serve_leave.specs.Lists.{Leaves, Adds};
@@ -35,7 +35,7 @@ fn say(
     count: usize,
 ) -> usize
     ensures { ((l : Limits) (links : ℕ) →
-        let d = domain_before_with l links user_ids user_links channel_ids channel_kinds managers admitted joined token_ids token_states token_values in
+        let d = domain_now_with l links user_ids user_links channel_ids channel_kinds managers admitted joined token_ids token_states token_values in
         let os = records (farewell_of d gone live reason (take count list.now)) in
         (result ≡ length os) × (result ≤ length out.old → Puts out.old 0 os out.new result))
         × (length out.old < result → out.new ≡ out.old) }
@@ -159,7 +159,7 @@ fn who_leaves(
     list: &mut [u16; 64],
     count: usize,
 ) -> Leavers
-    ensures { let us = users_before user_ids user_links in
+    ensures { let us = users_now user_ids user_links in
         Leaves us (those_on us p (if closes then in_order us.ids else once (take count list.old))) list.new result }
 {
     if closes {
@@ -260,7 +260,7 @@ fn add_leaver(
     t: Leavers,
 ) -> Leavers
     requires { t.count < 64 }
-    ensures { Adds (users_before user_ids user_links) p u list.old t list.new result }
+    ensures { Adds (users_now user_ids user_links) p u list.old t list.new result }
 {
     // How long the columns are: a place below is found, and there is room for one id more.
     let all = user_ids[..].len();
@@ -288,7 +288,7 @@ pub fn listed_on(
     list: &mut [u16; 64],
     count: usize,
 ) -> Leavers
-    ensures { let us = users_before user_ids user_links in
+    ensures { let us = users_now user_ids user_links in
         Leaves us (those_on us p (once (take count list.old))) list.new result }
 {
     let m = cols_walk::at_most(count, list[..].len());
@@ -304,7 +304,7 @@ pub fn listed_on(
 
 // The users on p, ascending.
 pub fn all_on(user_ids: &[u16; 64], user_links: &[u8; 64], p: u8, list: &mut [u16; 64]) -> Leavers
-    ensures { let us = users_before user_ids user_links in
+    ensures { let us = users_now user_ids user_links in
         Leaves us (those_on us p (in_order us.ids)) list.new result }
 {
     // How long the columns are: each user has a connection.

@@ -8,7 +8,7 @@ ghost use Rattle.out_records.specs.Out.{Puts};
 ghost use Rattle.domain.specs.declared.Limits.{Limits};
 ghost use Rattle.domain.specs.declared.token.Holding.TheVariants.{Giving};
 ghost use Rattle.domain.specs.Tables.{name, link};
-ghost use Rattle.domain.specs.Lent.{channels_before, domain_before_with, tokens_before, users_before};
+ghost use Rattle.domain.specs.Lent.{channels_now, domain_now_with, tokens_now, users_now};
 ghost use Rattle.domain.specs.Tokens.{status as status_of, lose as lose_of};
 ghost use Rattle.domain.specs.Leaving.{ended, returned, farewell as farewell_of};
 ghost use Rattle.serve_leave_records.specs.Parts.{parting, kind_at, ends_by, ends_there, end_at, return_at};
@@ -50,7 +50,7 @@ fn kind_of(
     joined: &[u16; 128],
     c: u16,
 ) -> Kind
-    ensures { result ≡ kind_at (channels_before channel_ids channel_kinds managers admitted joined) c }
+    ensures { result ≡ kind_at (channels_now channel_ids channel_kinds managers admitted joined) c }
 {
     // How long the columns are: behind the last place a channel is blank.
     let n = channel_ids[..].len();
@@ -77,7 +77,7 @@ fn put_ended(
     k: Kind,
 ) -> usize
     requires { at ≤ 65535 }
-    ensures { Puts out.old at (records_of (ended (users_before user_ids user_links) gone live c k)) out.new result }
+    ensures { Puts out.old at (records_of (ended (users_now user_ids user_links) gone live c k)) out.new result }
 {
     match k {
         Kind::Private(g, guests) => {
@@ -207,8 +207,8 @@ fn put_ends(
     live: u16,
 ) -> usize
     requires { from ≤ 4096 }
-    ensures { (Puts out.old from (records_of (each (end_at (users_before user_ids user_links)
-        (channels_before channel_ids channel_kinds managers admitted joined) gone live)
+    ensures { (Puts out.old from (records_of (each (end_at (users_now user_ids user_links)
+        (channels_now channel_ids channel_kinds managers admitted joined) gone live)
         (in_order channel_ids.now))) out.new result) × (result ≤ from + 14336) }
 {
     let e = find_ends(channel_ids, channel_kinds, managers, gone);
@@ -243,8 +243,8 @@ fn put_any_ends(
     live: u16,
 ) -> usize
     requires { from ≤ 4096 }
-    ensures { (Puts out.old from (records_of (each (end_at (users_before user_ids user_links)
-        (channels_before channel_ids channel_kinds managers admitted joined) gone live)
+    ensures { (Puts out.old from (records_of (each (end_at (users_now user_ids user_links)
+        (channels_now channel_ids channel_kinds managers admitted joined) gone live)
         (in_order channel_ids.now))) out.new result) × (result ≤ from + 14336) }
 {
     if cols_walk::any_is(channel_kinds, 3) {
@@ -277,8 +277,8 @@ fn put_refusal(
     r: u8,
 ) -> usize
     requires { at ≤ 65535 }
-    ensures { Puts out.old at (records_of (to (link (users_before user_ids user_links) g)
-        (TVcf no_such_user (name (users_before user_ids user_links) g) k (status_of (lose_of gone (Giving g r)) g)) ∷ [])) out.new result }
+    ensures { Puts out.old at (records_of (to (link (users_now user_ids user_links) g)
+        (TVcf no_such_user (name (users_now user_ids user_links) g) k (status_of (lose_of gone (Giving g r)) g)) ∷ [])) out.new result }
 {
     let h = domain_state::token::lose(gone, Holding::Giving(g, r));
     let s = domain_state::numbers::status_number(domain_state::token::status(h, g));
@@ -304,7 +304,7 @@ fn put_returned(
     h: Holding,
 ) -> usize
     requires { at ≤ 65535 }
-    ensures { Puts out.old at (records_of (returned (users_before user_ids user_links) gone k h)) out.new result }
+    ensures { Puts out.old at (records_of (returned (users_now user_ids user_links) gone k h)) out.new result }
 {
     match h {
         Holding::Giving(g, r) => {
@@ -335,8 +335,8 @@ fn put_returns(
     gone: u64,
 ) -> usize
     requires { from ≤ 32768 }
-    ensures { Puts out.old from (records_of (each (return_at (users_before user_ids user_links)
-        (tokens_before token_ids token_states token_values) gone) (in_order token_ids.now))) out.new result }
+    ensures { Puts out.old from (records_of (each (return_at (users_now user_ids user_links)
+        (tokens_now token_ids token_states token_values) gone) (in_order token_ids.now))) out.new result }
 {
     let mut at = from;
     let mut low: u16 = 0;
@@ -366,8 +366,8 @@ fn put_any_returns(
     gone: u64,
 ) -> usize
     requires { from ≤ 32768 }
-    ensures { Puts out.old from (records_of (each (return_at (users_before user_ids user_links)
-        (tokens_before token_ids token_states token_values) gone) (in_order token_ids.now))) out.new result }
+    ensures { Puts out.old from (records_of (each (return_at (users_now user_ids user_links)
+        (tokens_now token_ids token_states token_values) gone) (in_order token_ids.now))) out.new result }
 {
     if cols_walk::any_is(token_states, 3) {
         return put_returns(
@@ -403,7 +403,7 @@ pub fn farewell(
     list: &[u16; 64],
     count: usize,
 ) -> usize
-    ensures { (l : Limits) → (links : ℕ) → Puts out.old 0 (records_of (farewell_of (domain_before_with l links user_ids user_links channel_ids channel_kinds managers admitted joined token_ids token_states token_values) gone live reason (take count list.now))) out.new result }
+    ensures { (l : Limits) → (links : ℕ) → Puts out.old 0 (records_of (farewell_of (domain_now_with l links user_ids user_links channel_ids channel_kinds managers admitted joined token_ids token_states token_values) gone live reason (take count list.now))) out.new result }
 {
     let a = put_first(out, live, reason, list, count);
     let b = put_any_ends(

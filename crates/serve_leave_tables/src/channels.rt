@@ -4,7 +4,7 @@ ghost use Rattle.cols_spec.specs.Sets.{member, ids_above, with, meet, connection
 ghost use Rattle.cols_spec.specs.Swept.{Turns, anywhere};
 ghost use Rattle.domain.specs.Cells.{no_channel};
 ghost use Rattle.domain.specs.Tables.{hosts, sweep_channels};
-ghost use Rattle.domain.specs.Lent.{cells_after, cells_before, channels_after, channels_before, users_before};
+ghost use Rattle.domain.specs.Lent.{cells_after, cells_before, channels_after, channels_before, users_now};
 ghost use Rattle.serve_leave_tables.specs.Fates.{fate_by, ends_by, guests_left, marks_left};
 
 // Channel c is the user's id of one of those listed. Most ids are among the 64 that have a mark; another is looked for only where the channel
@@ -34,7 +34,7 @@ fn ends(role: u8, chair: u8, listed: bool, gone: u64, m: u16) -> bool
 
 // The connections of a channel that stays: a private one's only with the manager or an admitted user. Where none is joined none is sought.
 fn links_left(user_ids: &[u16; 64], user_links: &[u8; 64], chair: u8, guests: u64, m: u16) -> u16
-    ensures { result ≡ meet connections m (hosts (users_before user_ids user_links) (with seats guests chair)) }
+    ensures { result ≡ meet connections m (hosts (users_now user_ids user_links) (with seats guests chair)) }
 {
     if m == 0 {
         return 0;
@@ -60,7 +60,7 @@ fn stay(
     requires { j < 128 }
     ensures { (admitted.new ≡ set admitted.old j (guests_left role (get_or admitted.old j 0) gone))
         × (joined.new ≡ set joined.old j
-        (marks_left (users_before user_ids user_links) role (get_or managers.now j 0) (guests_left role (get_or admitted.old j 0) gone) m)) }
+        (marks_left (users_now user_ids user_links) role (get_or managers.now j 0) (guests_left role (get_or admitted.old j 0) gone) m)) }
 {
     if role == 3 {
         let let_in = cols_masks::other_seats(admitted[j], gone);
@@ -87,7 +87,7 @@ fn leave_place(
     j: usize,
 )
     requires { (j < 128) × (low ≡ ids_above 1000 list.now) }
-    ensures { Turns no_channel (anywhere (fate_by (users_before user_ids user_links) list.now gone live)) j
+    ensures { Turns no_channel (anywhere (fate_by (users_now user_ids user_links) list.now gone live)) j
         channel_ids.old (cells_before channel_kinds managers admitted joined)
         channel_ids.new (cells_after channel_kinds managers admitted joined) }
 {
@@ -132,7 +132,7 @@ pub fn leave(
     live: u16,
 )
     ensures { channels_after channel_ids channel_kinds managers admitted joined
-        ≡ sweep_channels (fate_by (users_before user_ids user_links) list.now gone live)
+        ≡ sweep_channels (fate_by (users_now user_ids user_links) list.now gone live)
         (channels_before channel_ids channel_kinds managers admitted joined) }
 {
     let low = cols_walk::id_marks(list);

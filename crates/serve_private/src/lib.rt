@@ -3,7 +3,7 @@ ghost use Rattle.std.specs.Prelude.{◌≡◌, true, false, List, ℕ, ◌≤◌
 ghost use Rattle.cols_spec.specs.Sets.{with, seats};
 ghost use Rattle.domain.specs.Cells.{kind};
 ghost use Rattle.domain.specs.Tables.{Channels, channel, hosts as hosts_of, at_limit, grant};
-ghost use Rattle.domain.specs.Lent.{channels_after, channels_after_with, channels_before, channels_before_with, users_before};
+ghost use Rattle.domain.specs.Lent.{channels_after, channels_after_with, channels_before, channels_before_with, channels_now, users_now};
 ghost use Rattle.domain.specs.Numbers.{reply_number};
 ghost use Rattle.domain.specs.Effects.{Effect, ignored as ignored_by, settle, answered};
 ghost use Rattle.domain.specs.Channels.{convene as convene_of, owned, manages, disband as disband_of, admit as admit_of, expel as expel_of};
@@ -32,7 +32,7 @@ pub fn convene(
 ) -> Answer
     ensures { let cs = channels_before channel_ids channel_kinds managers admitted joined in
         answered result (channels_after channel_ids channel_kinds managers admitted joined) out.new
-        ≡ settle cs (convene_of (grant cs) (at_limit limit cs.ids) (users_before user_ids user_links) cs p u) out.old }
+        ≡ settle cs (convene_of (grant cs) (at_limit limit cs.ids) (users_now user_ids user_links) cs p u) out.old }
 {
     let i = serve_reply::initiator(user_ids, user_links, p, u);
     if 64 <= i {
@@ -86,8 +86,8 @@ fn managed(
     u: u16,
     c: u16,
 ) -> usize
-    ensures { let us = users_before user_ids user_links in
-        let cs = channels_before channel_ids channel_kinds managers admitted joined in
+    ensures { let us = users_now user_ids user_links in
+        let cs = channels_now channel_ids channel_kinds managers admitted joined in
         (result < 128 → (act : (ℕ → ℕ → ℕ → Effect Channels)) → manages us cs p u c act ≡ act result (channel cs result).chair (channel cs result).guests)
         × (128 ≤ result → (act : (ℕ → ℕ → ℕ → Effect Channels)) → manages us cs p u c act ≡ ignored_by) }
 {
@@ -107,7 +107,7 @@ fn managed(
 
 // The connections with the manager or an admitted user.
 fn homes_of(user_ids: &[u16; 64], user_links: &[u8; 64], chair: u8, guests: u64) -> u16
-    ensures { result ≡ hosts_of (users_before user_ids user_links) (with seats guests chair) }
+    ensures { result ≡ hosts_of (users_now user_ids user_links) (with seats guests chair) }
 {
     domain_tables::users::hosts(user_ids, user_links, cols_masks::with_seat(guests, chair))
 }
@@ -128,7 +128,7 @@ pub fn disband(
 ) -> Answer
     ensures { let cs = channels_before channel_ids channel_kinds managers admitted joined in
         answered result (channels_after channel_ids channel_kinds managers admitted joined) out.new
-        ≡ settle cs (disband_of (users_before user_ids user_links) cs p u c) out.old }
+        ≡ settle cs (disband_of (users_now user_ids user_links) cs p u c) out.old }
 {
     let j = managed(
         user_ids,
@@ -174,7 +174,7 @@ fn with_change(
     ch: Channel,
     seats: u64,
 ) -> Channel
-    ensures { result ≡ changed (users_before user_ids user_links) s ch seats }
+    ensures { result ≡ changed (users_now user_ids user_links) s ch seats }
 {
     match s {
         Say::Admits(_, _) => Channel {
@@ -220,7 +220,7 @@ fn change(
 ) -> Answer
     ensures { (ids : List ℕ) → answered result (channels_after_with ids channel_kinds managers admitted joined) out.new
         ≡ settle (channels_before_with ids channel_kinds managers admitted joined)
-        (changes (users_before user_ids user_links) (channels_before_with ids channel_kinds managers admitted joined) j s (take count listed.old))
+        (changes (users_now user_ids user_links) (channels_before_with ids channel_kinds managers admitted joined) j s (take count listed.old))
         out.old }
 {
     let ch = domain_tables::channels::channel_at(channel_kinds, managers, admitted, joined, j);
@@ -261,9 +261,9 @@ pub fn revise(
     count: usize,
     out: &mut [u8],
 ) -> Answer
-    ensures { let cs = channels_before channel_ids channel_kinds managers admitted joined in
+    ensures { let cs = channels_before_with channel_ids.now channel_kinds managers admitted joined in
         answered result (channels_after_with cs.ids channel_kinds managers admitted joined) out.new
-        ≡ settle cs ((if admits then admit_of else expel_of) (users_before user_ids user_links) cs p u c (take count listed.old)) out.old }
+        ≡ settle cs ((if admits then admit_of else expel_of) (users_now user_ids user_links) cs p u c (take count listed.old)) out.old }
 {
     let j = managed(
         user_ids,

@@ -3,7 +3,7 @@ ghost use Rattle.std.specs.Prelude.{◌≡◌, true, false, List, [], ◌∷◌,
 ghost use Rattle.out_records.specs.Records.{records as records_of};
 ghost use Rattle.out_records.specs.Out.{Puts, each_two};
 ghost use Rattle.domain.specs.Tables.{Users};
-ghost use Rattle.domain.specs.Lent.{users_before};
+ghost use Rattle.domain.specs.Lent.{users_now};
 ghost use Rattle.domain.specs.Effects.{settle, answered, delivers};
 ghost use Rattle.domain.specs.Channels.{places as places_of, own};
 ghost use Rattle.serve_private_tell.specs.Sieve.{counted, sieved, leads, Takes, Located, Housed, owned_by, says, Begins, own_to, tells};
@@ -69,7 +69,7 @@ fn take_one(
     t: Taken,
 ) -> Taken
     requires { (i < 64) × (t.count ≤ i) × (length list.old ≡ 64) × (64 ≤ length spots.old) × (length shares.old ≡ 16) × (length firsts.old ≡ 16) × ((q : ℕ) → q < 16 → get_or shares.old q 0 ≤ 64) }
-    ensures { let us = users_before user_ids user_links in
+    ensures { let us = users_now user_ids user_links in
         ((passed : List ℕ)
         → Takes us k passed (take t.count list.old) spots.old shares.old firsts.old t.seats
         → Takes us k (passed ++ get_or list.old i 0 ∷ []) (take result.count list.new) spots.new shares.new firsts.new result.seats)
@@ -109,7 +109,7 @@ fn chosen(
     firsts: &mut [u8],
 ) -> Taken
     requires { (64 ≤ length spots.old) × (shares.old ≡ replicate 16 0) × (firsts.old ≡ replicate 16 0) }
-    ensures { Takes (users_before user_ids user_links) k (take count list.old) (take result.count list.new) spots.new shares.new firsts.new result.seats
+    ensures { Takes (users_now user_ids user_links) k (take count list.old) (take result.count list.new) spots.new shares.new firsts.new result.seats
         × (result.count ≤ 64) }
 {
     let m = cols_walk::at_most(count, list[..].len());
@@ -279,7 +279,7 @@ pub fn tell_chosen(
     list: &mut [u16; 64],
     count: usize,
 ) -> Told
-    ensures { let us = users_before user_ids user_links in
+    ensures { let us = users_now user_ids user_links in
         (answered {A = Unit {0}} result.answer tt out.new ≡ settle tt (tells us s (sieved us k (take count list.old)) tt) out.old)
         × (result.seats ≡ places_of us (sieved us k (take count list.old))) }
 {

@@ -2,7 +2,7 @@
 ghost use Rattle.std.specs.Prelude.{◌≡◌, List, ℕ};
 ghost use Rattle.domain.specs.Numbers.{reply_number};
 ghost use Rattle.domain.specs.Tables.{Domain, put_links, between, in_range};
-ghost use Rattle.domain.specs.Lent.{channels_before, domain_after, domain_before};
+ghost use Rattle.domain.specs.Lent.{channels_now, domain_after, domain_before};
 ghost use Rattle.domain.specs.Effects.{settled};
 ghost use Rattle.domain.specs.Events.{opens};
 ghost use Rattle.domain.specs.Outcomes.{limited, begun, after, audience as audience_of};
@@ -116,7 +116,7 @@ pub fn audience(
     joined: &[u16; 128],
     c: u16,
 ) -> u32
-    ensures { result ≡ audience_of (channels_before channel_ids channel_kinds managers admitted joined) c }
+    ensures { result ≡ audience_of (channels_now channel_ids channel_kinds managers admitted joined) c }
 {
     let j = cols_find::find(channel_ids, c);
     let rs = &channel_kinds[..];

@@ -7,7 +7,7 @@ ghost use Rattle.out_messages.specs.Confirms.{confirm as confirm_of};
 ghost use Rattle.domain.specs.Numbers.{result_number};
 ghost use Rattle.domain.specs.Tokens.{turned_of, status as status_of, grabbed_by};
 ghost use Rattle.domain.specs.Tables.{Tokens, attached, at_limit, is_free, state, set_token};
-ghost use Rattle.domain.specs.Lent.{users_before};
+ghost use Rattle.domain.specs.Lent.{users_now};
 ghost use Rattle.domain.specs.Passing.{turn as turn_of, answer as answer_of, informed};
 ghost use Rattle.domain.specs.Effects.{done};
 ghost use Rattle.serve_token_rules.specs.Deeds.{Does, asked};
@@ -197,7 +197,7 @@ fn concluded(
     h: Holding,
     next: Holding,
 ) -> Deed
-    ensures { (ts : Tokens) → Does ts k result (done (set_token ts k next) (informed (users_before user_ids user_links) res k h next)) }
+    ensures { (ts : Tokens) → Does ts k result (done (set_token ts k next) (informed (users_now user_ids user_links) res k h next)) }
 {
     if let Holding::Giving(g, _) = h {
         return Deed {
@@ -228,7 +228,7 @@ fn answer_offer(
     h: Holding,
     res: u8,
 ) -> Deed
-    ensures { let us = users_before user_ids user_links in
+    ensures { let us = users_now user_ids user_links in
         ((ts : Tokens) → h ≡ state ts k → attached us p u ≡ At i → Does ts k result (answer_of us ts p res u k)) }
 {
     if domain_state::token::is_offered(h, i) {
@@ -253,7 +253,7 @@ pub fn decide(
     at: usize,
     ask: Ask,
 ) -> Deed
-    ensures { let us = users_before user_ids user_links in
+    ensures { let us = users_now user_ids user_links in
         ((ts : Tokens) → standing token_states.now token_values.now at ≡ state ts k → attached us p u ≡ At i
         → Does ts k result (asked ask (at_limit limit token_ids.now) us ts p u k)) }
 {

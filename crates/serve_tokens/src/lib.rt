@@ -4,7 +4,7 @@ ghost use Rattle.cols_spec.specs.Places.{At, find};
 ghost use Rattle.out_records.specs.Records.{to};
 ghost use Rattle.domain.specs.Numbers.{reply_number};
 ghost use Rattle.domain.specs.Tables.{Channels, Tokens, Domain, put_tokens, attached, state};
-ghost use Rattle.domain.specs.Lent.{tokens_after, tokens_before, users_before};
+ghost use Rattle.domain.specs.Lent.{tokens_after, tokens_before, users_now};
 ghost use Rattle.domain.specs.Effects.{Effect, settle, answered, done, within};
 ghost use Rattle.domain.specs.Passing.{please as please_of, test as test_of};
 ghost use Rattle.domain.specs.Events.{act, tokens_full};
@@ -95,7 +95,7 @@ fn inquire(
     tests: bool,
     out: &mut [u8],
 ) -> Answer
-    ensures { let us = users_before user_ids user_links in
+    ensures { let us = users_now user_ids user_links in
         ((ts : Tokens) → h ≡ state ts k → attached us p u ≡ At i
         → answered result ts out.new ≡ settle ts ((if tests then test_of else please_of) us ts p u k) out.old) }
 {
@@ -139,8 +139,8 @@ pub fn request(
     out: &mut [u8],
 ) -> Answer
     ensures { (m : ℕ) (cs : Channels) (new : ℕ) →
-        let d = assembled limits m (users_before user_ids user_links) cs (tokens_before token_ids token_states token_values) in
-        answered result (assembled limits m (users_before user_ids user_links) cs (tokens_after token_ids token_states token_values)) out.new
+        let d = assembled limits m (users_now user_ids user_links) cs (tokens_before token_ids token_states token_values) in
+        answered result (assembled limits m (users_now user_ids user_links) cs (tokens_after token_ids token_states token_values)) out.new
         ≡ settle d (act new d p (token_request number u k more)) out.old }
 {
     let place = serve_reply::initiator(user_ids, user_links, p, u);
