@@ -11,7 +11,7 @@ const ONE: usize = 65537;
 const TWO: usize = 131074;
 
 // What a turn did: it kept frames or passed over octets, so many of them; and whether a cut is open then.
-#[derive(Drop)]
+#[derive(Clone, Copy)]
 pub struct Turn {
     pub octets: usize,
     pub kept: bool,
@@ -127,7 +127,7 @@ pub fn turn_over(window: &[u8], ended: bool, cutting: bool) -> Turn
 }
 
 // Where a sweep stands: the octets passed, whether a cut is open, and where it starts.
-#[derive(Drop)]
+#[derive(Clone, Copy)]
 pub struct Stand {
     pub at: u64,
     pub cutting: bool,

@@ -1,7 +1,7 @@
 // What is told on standard error: lines, collected in a buffer that the caller lends.
-use libc::STDERR_FILENO;
+use std::io::{Cursor, Error, Write};
 use trace_frames::fault::Fault;
-use trace_io::lines::{say, say_number};
+use trace_io::lines::{ERRORS, say, say_number};
 
 // No line is longer.
 const LINE: usize = 128;
@@ -9,7 +9,7 @@ const LINE: usize = 128;
 // Writes the lines that are collected.
 pub fn write(text: &[u8], filled: usize) {
     if filled <= text.len() {
-        io::write_all(STDERR_FILENO, &text[0..filled]);
+        io::write_all(ERRORS, &text[0..filled]);
     }
 }
 
@@ -65,4 +65,36 @@ pub fn tell_all(text: &mut [u8], filled: usize, kept: u64, cut: u64, spans: u64)
     let b = say(text, a, b"octets kept: ");
     let c = say_number(text, b, kept);
     say_cuts(text, c, cut, spans)
+}
+
+// What failed, and why, in one line.
+pub fn tell_failure(what: &[u8], why: &str) {
+    io::write_all(ERRORS, what);
+    io::write_all(ERRORS, b": ");
+    io::write_all(ERRORS, why.as_bytes());
+    io::write_all(ERRORS, b"\n");
+}
+
+// The words of an error, without the number that the system gives it.
+fn without_number(words: &str) -> &str {
+    match words.split_once(" (os error ") {
+        Some((why, _)) => why,
+        None => words,
+    }
+}
+
+// What failed, and why, as the system says it.
+pub fn tell_error(what: &[u8], why: &Error) {
+    let mut words = [0u8; 256];
+    let n = {
+        let mut room = Cursor::new(&mut words[..]);
+        let _ = write!(room, "{why}");
+        room.position()
+    };
+    if n <= 256 {
+        match str::from_utf8(&words[..n as usize]) {
+            Ok(all) => tell_failure(what, without_number(all)),
+            Err(_) => tell_failure(what, ""),
+        }
+    }
 }

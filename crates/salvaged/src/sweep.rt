@@ -1,8 +1,8 @@
-// A trace from a descriptor, salvaged window by window.
+// A trace that is read and written as it comes, salvaged window by window.
 ghost use Rattle.std.specs.Prelude.{◌≡◌, length};
 
-use libc::STDOUT_FILENO;
 use salvage_window::{Stand, Turn, cut_size, lead, plus, turn_over};
+use std::io::{Error, ErrorKind, Read, Write};
 use trace_frames::fault::Fault;
 use trace_io::input::Span;
 
@@ -11,7 +11,7 @@ const ENOUGH: usize = 131074;
 
 // Where the run stands in the trace, and the octets that are read and not passed; why the cut began that is open or was the last; what is kept and cut so far;
 // how much of the frames and of the text waits to be written; whether there is more to do, and which call of the system failed.
-#[derive(Drop)]
+#[derive(Clone, Copy)]
 struct Run {
     stand: Stand,
     span: Span,
@@ -25,12 +25,12 @@ struct Run {
     failure: Failure,
 }
 
-// Which call of the system failed.
-#[derive(Drop)]
+// Which call of the system failed, and why.
+#[derive(Clone, Copy)]
 enum Failure {
     None,
-    Read,
-    Write,
+    Read(Error),
+    Write(Error),
 }
 
 // Room for a window.
@@ -90,22 +90,22 @@ fn is_short(span: Span) -> bool {
 }
 
 // Reads once behind the octets that are not passed.
-fn fetch(fd: i32, buf: &mut [u8], run: Run) -> Run {
+fn fetch<R: Read>(input: &mut R, buf: &mut [u8], run: Run) -> Run {
     let n = trace_io::input::to_start(buf, run.span);
-    let got = libc::read(fd, &mut buf[n..]);
-    if got < 0 {
-        return fail(run, Failure::Read);
+    match input.read(&mut buf[n..]) {
+        Ok(k) => {
+            let end = n + k;
+            let span = Span {
+                from: 0,
+                to: end,
+                ended: k == 0,
+            };
+            let mut r = run;
+            r.span = span;
+            r
+        }
+        Err(why) => fail(run, Failure::Read(why)),
     }
-    let k = io::count(got, &buf[n..]);
-    let end = n + k;
-    let span = Span {
-        from: 0,
-        to: end,
-        ended: k == 0,
-    };
-    let mut r = run;
-    r.span = span;
-    r
 }
 
 // The octets of a span; none where it does not lie in the buffer.
@@ -136,32 +136,33 @@ fn pass(run: Run, t: Turn) -> Run {
     r
 }
 
-// Writes the frames that wait, and answers whether they are written.
-fn flush(out: &[u8], held: usize) -> bool {
+// Writes the frames that wait.
+fn flush<W: Write>(output: &mut W, out: &[u8], held: usize) -> Result<(), Error> {
     if held <= out.len() {
-        return io::write_all(STDOUT_FILENO, &out[0..held]);
+        return output.write_all(&out[0..held]);
     }
-    false
+    Err(Error::from(ErrorKind::InvalidInput))
 }
 
 // Frames that do not fit behind those that wait are written after them; a short run waits.
-fn write_on(out: &mut [u8], os: &[u8], run: Run) -> Run {
+fn write_on<W: Write>(output: &mut W, out: &mut [u8], os: &[u8], run: Run) -> Run {
     let mut r = run;
     r.held = 0;
-    if flush(out, run.held) {
-        if os.len() < out.len() {
-            r.held = trace_io::lines::say(out, 0, os);
-            return r;
-        }
-        if io::write_all(STDOUT_FILENO, os) {
-            return r;
-        }
+    if let Err(why) = flush(output, out, run.held) {
+        return fail(r, Failure::Write(why));
     }
-    fail(r, Failure::Write)
+    if os.len() < out.len() {
+        r.held = trace_io::lines::say(out, 0, os);
+        return r;
+    }
+    match output.write_all(os) {
+        Ok(()) => r,
+        Err(why) => fail(r, Failure::Write(why)),
+    }
 }
 
 // Puts frames behind those that wait, where there is room for them.
-fn put(out: &mut [u8], os: &[u8], run: Run) -> Run {
+fn put<W: Write>(output: &mut W, out: &mut [u8], os: &[u8], run: Run) -> Run {
     let held = run.held;
     if held <= out.len() {
         if os.len() <= out.len() - held {
@@ -170,14 +171,14 @@ fn put(out: &mut [u8], os: &[u8], run: Run) -> Run {
             return r;
         }
     }
-    write_on(out, os, run)
+    write_on(output, out, os, run)
 }
 
 // Frames are kept.
-fn keep(out: &mut [u8], os: &[u8], run: Run) -> Run {
+fn keep<W: Write>(output: &mut W, out: &mut [u8], os: &[u8], run: Run) -> Run {
     let mut r = run;
     r.kept = plus(run.kept, os.len() as u64);
-    put(out, os, r)
+    put(output, out, os, r)
 }
 
 // A cut goes on, or ends here.
@@ -214,7 +215,7 @@ fn open(window: &[u8], run: Run) -> Run {
 }
 
 // A turn over what is read.
-fn advance(buf: &[u8], out: &mut [u8], text: &mut [u8], run: Run) -> Run {
+fn advance<W: Write>(output: &mut W, buf: &[u8], out: &mut [u8], text: &mut [u8], run: Run) -> Run {
     let w = window(buf, run.span);
     let t = turn_over(w, run.span.ended, run.stand.cutting);
     let n = t.octets;
@@ -223,7 +224,7 @@ fn advance(buf: &[u8], out: &mut [u8], text: &mut [u8], run: Run) -> Run {
         return cut(text, r);
     }
     if t.kept {
-        return keep(out, &w[0..n], r);
+        return keep(output, out, &w[0..n], r);
     }
     if t.cutting {
         return open(w, r);
@@ -233,57 +234,70 @@ fn advance(buf: &[u8], out: &mut [u8], text: &mut [u8], run: Run) -> Run {
 }
 
 // Reads where the window is too short, else takes a turn.
-fn step(fd: i32, buf: &mut [u8], out: &mut [u8], text: &mut [u8], run: Run) -> Run {
+fn step<R: Read, W: Write>(
+    input: &mut R,
+    output: &mut W,
+    buf: &mut [u8],
+    out: &mut [u8],
+    text: &mut [u8],
+    run: Run,
+) -> Run {
     if is_short(run.span) {
-        return fetch(fd, buf, run);
+        return fetch(input, buf, run);
     }
-    advance(buf, out, text, run)
+    advance(output, buf, out, text, run)
 }
 
 // Turn by turn to the end of the trace; the count only makes the loop end.
-fn play(fd: i32, buf: &mut [u8], out: &mut [u8], text: &mut [u8]) -> Run {
+fn play<R: Read, W: Write>(
+    input: &mut R,
+    output: &mut W,
+    buf: &mut [u8],
+    out: &mut [u8],
+    text: &mut [u8],
+) -> Run {
     let mut run = begin();
     let mut turns = u64::MAX;
     while turns > 0 && run.more {
-        run = step(fd, buf, out, text, run);
+        run = step(input, output, buf, out, text, run);
         turns -= 1;
     }
     run
 }
 
 // Writes the frames that still wait.
-fn last(out: &[u8], run: Run) -> Run {
-    if flush(out, run.held) {
-        return run;
+fn last<W: Write>(output: &mut W, out: &[u8], run: Run) -> Run {
+    match flush(output, out, run.held) {
+        Ok(()) => run,
+        Err(why) => fail(run, Failure::Write(why)),
     }
-    fail(run, Failure::Write)
 }
 
 // Writes what waits, and behind it the totals, or why the run ended before.
-fn finish(out: &[u8], text: &mut [u8], run: Run) {
-    let r = last(out, run);
+fn finish<W: Write>(output: &mut W, out: &[u8], text: &mut [u8], run: Run) {
+    let r = last(output, out, run);
     let failure = r.failure;
     match failure {
         Failure::None => {
             let filled = super::report::tell_all(text, r.filled, r.kept, r.cut, r.spans);
             super::report::write(text, filled);
         }
-        Failure::Read => {
+        Failure::Read(why) => {
             super::report::write(text, r.filled);
-            os::fail(b"cannot read the trace");
+            super::report::tell_error(b"cannot read the trace", &why);
         }
-        Failure::Write => {
+        Failure::Write(why) => {
             super::report::write(text, r.filled);
-            os::fail(b"cannot write");
+            super::report::tell_error(b"cannot write", &why);
         }
     }
 }
 
-// Salvages the trace that a descriptor reads.
-pub fn salvage(fd: i32) {
+// Salvages the trace that comes in, and writes what is kept.
+pub fn salvage<R: Read, W: Write>(input: &mut R, output: &mut W) {
     let mut buf = window_room();
     let mut out = io::large_buffer();
     let mut text = io::large_buffer();
-    let run = play(fd, &mut buf, &mut out, &mut text);
-    finish(&out, &mut text, run);
+    let run = play(input, output, &mut buf, &mut out, &mut text);
+    finish(output, &out, &mut text, run);
 }

@@ -3,7 +3,7 @@ ghost use Rattle.std.specs.Prelude.{◌≡◌, ◌≤◌, length};
 ghost use Rattle.trace_frames.specs.Fault.{fault_missing, fault_behind, fault_inside, fault_of};
 
 // The first rule that is broken, from the left.
-#[derive(Drop)]
+#[derive(Clone, Copy)]
 pub enum Fault {
     // The length is below 3.
     Length,

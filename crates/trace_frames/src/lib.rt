@@ -8,7 +8,7 @@ ghost use Rattle.trace_frames.specs.Good.{size_in, good_size};
 pub mod fault;
 
 // What a frame tells of its connection: it opens, it is lost, or a message came on it.
-#[derive(Drop)]
+#[derive(Clone, Copy)]
 pub enum Kind {
     Open,
     Loss,
@@ -16,7 +16,7 @@ pub enum Kind {
 }
 
 // What stands at the front of a trace.
-#[derive(Drop)]
+#[derive(Clone, Copy)]
 pub enum Frame {
     // Nothing: the trace is over.
     End,

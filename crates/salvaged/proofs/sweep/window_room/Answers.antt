@@ -1,0 +1,8 @@
+-- `salvaged::sweep::window_room` meets its contract. Assumes nothing.
+use mathlib.Core.Path.{sym}
+use Prim.Native.Nat.{ℕ}
+use lib.ListN.{length-replicate}
+use Rattle.salvaged.proofs.sweep.window_room.Goals as goal
+
+pub returns : goal.returns
+returns c = sym (length-replicate {0} {A = ℕ} 1048576 0)
