@@ -38,40 +38,40 @@ const WIDTH: usize = 24;
 
 // The rows one behind the other; the last is for no word.
 const ROWS: [u8; 3024] = *b"successful..............\
-    domain_merging..........\
-    domain_not_hierarchical.\
-    no_such_channel.........\
-    no_such_domain..........\
-    no_such_user............\
-    not_admitted............\
-    other_user_id...........\
-    parameters_unacceptable.\
-    token_not_available.....\
-    token_not_possessed.....\
-    too_many_channels.......\
-    too_many_tokens.........\
-    too_many_users..........\
-    unspecified_failure.....\
-    user_rejected...........\
-    inconsistent_merge......\
-    forbidden_PDU_downward..\
-    forbidden_PDU_upward....\
-    invalid_BER_encoding....\
-    invalid_PER_encoding....\
-    misrouted_user..........\
-    unrequested_confirm.....\
+    domain-merging..........\
+    domain-not-hierarchical.\
+    no-such-channel.........\
+    no-such-domain..........\
+    no-such-user............\
+    not-admitted............\
+    other-user-id...........\
+    parameters-unacceptable.\
+    token-not-available.....\
+    token-not-possessed.....\
+    too-many-channels.......\
+    too-many-tokens.........\
+    too-many-users..........\
+    unspecified-failure.....\
+    user-rejected...........\
+    inconsistent-merge......\
+    forbidden-PDU-downward..\
+    forbidden-PDU-upward....\
+    invalid-BER-encoding....\
+    invalid-PER-encoding....\
+    misrouted-user..........\
+    unrequested-confirm.....\
     wrong-transport-priority\
-    channel_id_conflict.....\
-    token_id_conflict.......\
-    not_user_id_channel.....\
-    too_many_channels.......\
-    too_many_tokens.........\
-    too_many_users..........\
-    domain_disconnected.....\
-    provider_initiated......\
-    token_purged............\
-    user_requested..........\
-    channel_purged..........\
+    channel-id-conflict.....\
+    token-id-conflict.......\
+    not-user-id-channel.....\
+    too-many-channels.......\
+    too-many-tokens.........\
+    too-many-users..........\
+    domain-disconnected.....\
+    provider-initiated......\
+    token-purged............\
+    user-requested..........\
+    channel-purged..........\
     notInUse................\
     selfGrabbed.............\
     otherGrabbed............\
