@@ -1,5 +1,7 @@
 // Salvages torn traces, the cases of a second program: each case from standard input, and for each a line of the answer and of both rooms as they stand
 // then (tests/salvage/README.md has the form of both).
+#![tactic(auto)]
+
 use libc::STDIN_FILENO;
 use salvage::Salvaged;
 use trace_io::lines::{flush, say, say_number};
