@@ -1,4 +1,6 @@
 // What the provider makes of the octets of a message, before it looks at any table.
+#![tactic(auto)]
+
 ghost use Rattle.std.specs.Prelude.{◌≡◌};
 ghost use Rattle.domain.specs.Numbers.{reply_number};
 ghost use Rattle.codec_read_fast.specs.Shortly.{few_ids, NoneRead};
