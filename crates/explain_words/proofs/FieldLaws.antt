@@ -1,9 +1,7 @@
 -- The word for a field. Assumes nothing.
 use Prim.Native.Nat.{ℕ, ◌≤◌, ◌<◌}
 use mathlib.Core.Path.{◌≡◌, refl, sym, ap, ◌∙◌}
-use native.Mathlib.Omega.{arith}
 use borrow.Author.Tests.{lt-ltb, le-ltb}
-use lib.Dec.{ltb}
 use Rattle.explain_words.specs.FieldNames.{names_at, digit_at, word_of, field_word}
 
 pub field_none : (n i : ℕ) → 3 < i → 125 ≡ field_word n i

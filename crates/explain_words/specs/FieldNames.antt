@@ -1,5 +1,5 @@
 -- The names of a message's fields, and that they fit the table of messages.
-use Rattle.std.specs.Prelude.{ℕ, suc, zero, ◌+◌, ◌/◌, ◌%◌, ◌≡◌, refl, Bool, true, false, cond, ◌&&◌, List, [], ◌∷◌, eqb, ltb, get_or}
+use Rattle.std.specs.Prelude.{ℕ, suc, zero, ◌+◌, ◌/◌, ◌%◌, ◌≡◌, refl, Bool, true, cond, ◌&&◌, List, [], ◌∷◌, eqb, ltb, get_or}
 use Rattle.codec_table.specs.Columns.{packed, packed_at, form_at, count_at, kinds_at, kind_at}
 use Rattle.explain_words.specs.Words.{field_words, no_word}
 
