@@ -1,12 +1,12 @@
 -- An RJum with a message's first octets: how long it is, and how it is sent. Assumes nothing.
-use mathlib.Core.Path.{◌≡◌, refl, sym, ap, ◌∙◌}
+use mathlib.Core.Path.{◌≡◌, refl, ap}
 use mathlib.Core.List.{List, [], ◌∷◌}
 use Prim.Native.Nat.{ℕ, ◌+◌, ◌≤◌, ◌<◌, min}
 use native.Mathlib.Omega.{arith}
 use borrow.Author.Tests.{ne_eqb}
 use lib.ListN.{length, take}
 use Rattle.codec_table.specs.Named.{RJum}
-use Rattle.out_records.specs.Records.{Sent, to, wire, record_of, records}
+use Rattle.out_records.specs.Records.{to, wire, record_of, records}
 use Rattle.out_records.specs.Out.{Puts, guarded}
 use Rattle.out_records.proofs.Laying.{held, held_length, held_inside, held_count}
 use Rattle.out_records.proofs.Telling.{put_sent, sent_length}

@@ -1,4 +1,6 @@
 // Answers that need no table: whether a connection is open, and how a message is refused.
+#![tactic(auto)]
+
 ghost use Rattle.std.specs.Prelude.{◌≡◌, not, ◌||◌, [], ◌∷◌, ltb, take};
 ghost use Rattle.cols_spec.specs.Sets.{has as has_in};
 ghost use Rattle.codec_table.specs.Named.{RJum};
