@@ -1,4 +1,6 @@
 // The tables of the domain, each lent as one array of numbers for each part of a place: looked up and stored to. Any contents are taken.
+#![tactic(auto)]
+
 pub mod channels;
 pub mod tokens;
 pub mod users;
