@@ -15,7 +15,7 @@ use domain_state::numbers::reply_number;
 
 // What an event is answered with: the reply's number, and how many octets are sent.
 #[repr(C)]
-#[derive(Drop)]
+#[derive(Clone, Copy)]
 pub struct Answered {
     pub reply: u32,
     pub sent: usize,

@@ -244,7 +244,7 @@ pub fn depart(
 }
 
 // How many leave: so many ids from the list's start on. And the places of their users.
-#[derive(Drop)]
+#[derive(Clone, Copy)]
 pub struct Leavers {
     pub count: usize,
     pub seats: u64,

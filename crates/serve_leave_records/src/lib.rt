@@ -108,7 +108,7 @@ fn ends(role: u8, chair: u8, gone: u64) -> bool
 
 // The channels that end, as marks of their ids: 1001 to 1064, and 1065 to 1128. Ids are given out from 1001 on, so that no other is met; yet
 // any contents are taken.
-#[derive(Drop)]
+#[derive(Clone, Copy)]
 struct Ending {
     low: u64,
     high: u64,

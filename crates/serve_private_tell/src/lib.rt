@@ -12,14 +12,14 @@ use domain::answer::Answer;
 use domain::numbers::Reply;
 
 // Whose ids of a list count: of all who are attached, or of the admitted by a mask of places.
-#[derive(Drop)]
+#[derive(Clone, Copy)]
 pub enum Pick {
     Attached,
     Admitted(u64),
 }
 
 // What is taken of a list: how many ids, and the places of their users.
-#[derive(Drop)]
+#[derive(Clone, Copy)]
 struct Taken {
     count: usize,
     seats: u64,
@@ -123,7 +123,7 @@ fn chosen(
 }
 
 // What a list's users are told: CAin of user and channel, CEin of a channel.
-#[derive(Drop)]
+#[derive(Clone, Copy)]
 pub enum Say {
     Admits(u16, u16),
     Expels(u16),
@@ -263,7 +263,7 @@ fn tell_own(
 }
 
 // What a list's users were told, and their places.
-#[derive(Drop)]
+#[derive(Clone, Copy)]
 pub struct Told {
     pub answer: Answer,
     pub seats: u64,

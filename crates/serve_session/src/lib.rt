@@ -11,7 +11,7 @@ ghost use Rattle.cols_spec.specs.Places.{used};
 use domain::Limits;
 use domain::numbers::Reply;
 
-#[derive(Drop)]
+#[derive(Clone, Copy)]
 pub struct Started {
     pub reply: Reply,
     pub limits: Limits,

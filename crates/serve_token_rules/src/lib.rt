@@ -18,7 +18,7 @@ use domain::token::{Holding, Token, Turned};
 use out_messages::Confirm;
 
 // What is asked for: the token for one user alone, or together with others; its end; that it goes to a user; and what that user answers.
-#[derive(Drop)]
+#[derive(Clone, Copy)]
 pub enum Ask {
     Grab,
     Inhibit,
@@ -28,7 +28,7 @@ pub enum Ask {
 }
 
 // The request is ignored, or the token stays as it is, or turns to a state, whose cell this is.
-#[derive(Drop)]
+#[derive(Clone, Copy)]
 pub enum Fate {
     Ignored,
     Stays,
@@ -36,7 +36,7 @@ pub enum Fate {
 }
 
 // What is done: what becomes of the token, and whether a connection is told, with the octets of its message.
-#[derive(Drop)]
+#[derive(Clone, Copy)]
 pub struct Deed {
     pub fate: Fate,
     pub told: bool,
@@ -121,7 +121,7 @@ fn given(user_links: &[u8; 64], u: u16, i: u8, k: u16, j: u8, recipient: u16) ->
 }
 
 // What a request that is confirmed to its asker makes of a token, the state that it was in, and the confirm's kind.
-#[derive(Drop)]
+#[derive(Clone, Copy)]
 struct Outcome {
     kind: Confirm,
     before: Holding,
