@@ -1,6 +1,8 @@
 // What a conference bridge written in C calls: one domain in a struct that the bridge keeps. Each function lends the struct's fields to
 // `c_fields`; any contents are taken. include/ladlestorm.h has the functions for C; those with `raw` in their name take octets or a room,
 // and the header has one around each, which takes NULL with length 0.
+#![tactic(auto)]
+
 ghost use Rattle.std.specs.Prelude.{◌≡◌, List, ℕ};
 ghost use Rattle.cols_spec.specs.Places.{used};
 ghost use Rattle.domain.specs.Tables.{Domain as Tables};
