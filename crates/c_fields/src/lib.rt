@@ -2,7 +2,7 @@
 ghost use Rattle.std.specs.Prelude.{◌≡◌, ◌⊎◌, List, ℕ, ◌<◌};
 ghost use Rattle.cols_spec.specs.Places.{used};
 ghost use Rattle.domain.specs.Tables.{Domain};
-ghost use Rattle.domain.specs.Lent.{channels_before, domain_after, domain_before};
+ghost use Rattle.domain.specs.Lent.{channels_now, domain_after, domain_before};
 ghost use Rattle.domain.specs.Numbers.{reply_number};
 ghost use Rattle.domain.specs.Effects.{settled};
 ghost use Rattle.domain.specs.Events.{opens, loses, hears};
@@ -217,7 +217,7 @@ pub fn audience<'a>(
     joined: &'a [u16; 128],
     c: u16,
 ) -> u32
-    ensures { result ≡ audience_of (channels_before channel_ids channel_kinds managers admitted joined) c }
+    ensures { result ≡ audience_of (channels_now channel_ids channel_kinds managers admitted joined) c }
 {
     serve_session::audience(channel_ids, channel_kinds, managers, admitted, joined, c)
 }
