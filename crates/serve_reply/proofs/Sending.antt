@@ -3,7 +3,7 @@ use Rattle.std.specs.Prelude.{if◌then◌else◌}
 use mathlib.Core.Path.{◌≡◌, refl, sym, ap, ◌∙◌}
 use mathlib.Core.Bool.{Bool, true, false}
 use mathlib.Core.List.{List, [], ◌∷◌, ◌++◌}
-use Prim.Native.Nat.{ℕ, ◌+◌, ◌≤◌, ◌<◌}
+use Prim.Native.Nat.{ℕ, ◌≤◌, ◌<◌}
 use native.Mathlib.Omega.{arith}
 use borrow.Author.Tests.{lt-ltb, le-ltb}
 use lib.Dec.{eqb, ltb}
@@ -14,7 +14,7 @@ use Rattle.out_records.specs.Out.{Puts, guarded, told}
 use Rattle.out_records.proofs.Laying.{put_fits, guarded_in}
 use Rattle.out_records.proofs.Telling.{records_one, told_is}
 use Rattle.serve_reply.specs.Whole.{whole}
-use Rattle.domain.specs.Effects.{Settled, Effect, ignored, done, settled, delivers, settle}
+use Rattle.domain.specs.Effects.{Settled, done, settled, delivers, settle}
 
 -- a message went to p, or there was no room for it: reply n, with l octets
 abbrev pub Told : (p : ℕ) (m : Message) (n l : ℕ) (out o : List ℕ) → Type 0

@@ -1,4 +1,6 @@
 // What every request does: it looks for its initiator, and sends its records whole or not at all.
+#![tactic(auto)]
+
 pub mod confirms;
 
 ghost use Rattle.std.specs.Prelude.{◌≡◌, eqb};
