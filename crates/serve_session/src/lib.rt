@@ -1,4 +1,6 @@
 // A domain is made, connections open, and the tables are asked.
+#![tactic(auto)]
+
 ghost use Rattle.std.specs.Prelude.{◌≡◌, List, ℕ};
 ghost use Rattle.domain.specs.Numbers.{reply_number};
 ghost use Rattle.domain.specs.Tables.{Domain, put_links, between, in_range};
