@@ -10,11 +10,11 @@ use native.Mathlib.Omega.{arith}
 use lib.Dec.{eqb}
 use lib.ListN.{length, take, drop, get_or, length-take, length-append, take-append-drop, drop_of_length-le}
 use lib.Seq.{drop-cons}
-use Rattle.cols_spec.specs.Sets.{keep, null, each, below, connections}
+use Rattle.cols_spec.specs.Sets.{keep, null, each}
 use Rattle.cols_spec.specs.Places.{found}
 use Rattle.cols_spec.proofs.Order.{keep_le}
 use Rattle.cols_spec.proofs.Turns.{keep_append}
-use Rattle.codec_table.specs.Named.{Message, CAin, CEin}
+use Rattle.codec_table.specs.Named.{Message}
 use Rattle.out_records.specs.Records.{Sent, to, wire, two, record_of, records}
 use Rattle.out_records.specs.Out.{Puts, guarded, each_two}
 use Rattle.out_records.proofs.Laying.{Onward, put_none, put_then, guarded_in, ids_length}

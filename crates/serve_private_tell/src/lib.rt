@@ -1,4 +1,6 @@
 // A list of users: who of them counts, and what each connection hears of its own. Records are sent whole or not at all.
+#![tactic(auto)]
+
 ghost use Rattle.std.specs.Prelude.{◌≡◌, true, false, List, [], ◌∷◌, ◌++◌, ℕ, ◌+◌, ◌≤◌, ◌<◌, eqb, length, take, get_or, set, replicate, if◌then◌else◌};
 ghost use Rattle.out_records.specs.Records.{records as records_of};
 ghost use Rattle.out_records.specs.Out.{Puts, each_two};
