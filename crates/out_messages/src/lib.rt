@@ -9,7 +9,7 @@ ghost use Rattle.out_records.specs.Records.{wire, record_of};
 ghost use Rattle.out_records.specs.Out.{each_two};
 ghost use Rattle.out_messages.specs.Confirms.{confirm, number};
 
-#[derive(Drop)]
+#[derive(Clone, Copy)]
 pub enum Confirm {
     Grab,
     Inhibit,
