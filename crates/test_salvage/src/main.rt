@@ -2,8 +2,9 @@
 // then (tests/salvage/README.md has the form of both).
 #![tactic(auto)]
 
-use libc::STDIN_FILENO;
 use salvage::Salvaged;
+use std::io::Read;
+use trace_io::input::read_full;
 use trace_io::lines::{flush, say, say_number};
 
 // What a room holds before: so it is seen what stays.
@@ -35,7 +36,7 @@ fn show(text: &mut [u8], filled: usize, r: Salvaged, out: &[u8], list: &[u8]) ->
 }
 
 // Where the run stands: how much of the text waits to be written, and whether there may be another case.
-#[derive(Drop)]
+#[derive(Clone, Copy)]
 struct Turn {
     filled: usize,
     more: bool,
@@ -50,7 +51,7 @@ fn play(trace: &[u8], out: &mut [u8], list: &mut [u8], text: &mut [u8], filled: 
 }
 
 // The lengths of a case: those of the trace, of the output's room and of the list's.
-#[derive(Drop)]
+#[derive(Clone, Copy)]
 struct Sizes {
     trace: usize,
     out: usize,
@@ -58,11 +59,11 @@ struct Sizes {
 }
 
 // Whether the trace of a case is read.
-fn read_trace(trace: &mut [u8], n: usize) -> bool {
+fn read_trace<R: Read>(input: &mut R, trace: &mut [u8], n: usize) -> bool {
     if trace.len() < n {
         return false;
     }
-    n <= io::read_full(STDIN_FILENO, &mut trace[0..n])
+    n <= read_full(input, &mut trace[0..n])
 }
 
 // A case in rooms of just its lengths.
@@ -90,7 +91,8 @@ fn play_in(
 }
 
 // One case: its lengths, two octets each, and the trace.
-fn run_case(
+fn run_case<R: Read>(
+    input: &mut R,
     trace: &mut [u8],
     out: &mut [u8],
     list: &mut [u8],
@@ -102,7 +104,7 @@ fn run_case(
         more: false,
     };
     let mut head = [0u8; 6];
-    if io::read_full(STDIN_FILENO, &mut head) < 6 {
+    if read_full(input, &mut head) < 6 {
         return end;
     }
     let sizes = Sizes {
@@ -110,7 +112,7 @@ fn run_case(
         out: trace_frames::following(head[2], head[3]),
         list: trace_frames::following(head[4], head[5]),
     };
-    if read_trace(trace, sizes.trace) {
+    if read_trace(input, trace, sizes.trace) {
         let next = play_in(sizes, trace, out, list, text, filled);
         return Turn {
             filled: next,
@@ -121,24 +123,31 @@ fn run_case(
 }
 
 // Case by case to the end of the input; the count only makes the loop end.
-fn run(trace: &mut [u8], out: &mut [u8], list: &mut [u8], text: &mut [u8]) -> usize {
+fn run<R: Read>(
+    input: &mut R,
+    trace: &mut [u8],
+    out: &mut [u8],
+    list: &mut [u8],
+    text: &mut [u8],
+) -> usize {
     let mut turn = Turn {
         filled: 0,
         more: true,
     };
     let mut turns = u64::MAX;
     while turns > 0 && turn.more {
-        turn = run_case(trace, out, list, text, turn.filled);
+        turn = run_case(input, trace, out, list, text, turn.filled);
         turns -= 1;
     }
     turn.filled
 }
 
-fn main() {
+fn main(rt: HostRuntime) {
+    let mut input = rt.stdin();
     let mut trace = io::large_buffer();
     let mut out = io::large_buffer();
     let mut list = io::large_buffer();
     let mut text = io::large_buffer();
-    let filled = run(&mut trace, &mut out, &mut list, &mut text);
+    let filled = run(&mut input, &mut trace, &mut out, &mut list, &mut text);
     flush(&text, filled);
 }
