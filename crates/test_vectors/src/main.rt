@@ -1,12 +1,16 @@
 // Runs the codec on the vectors of a second PER program: frames from standard input, and for each a line of what the reader or the
 // writer makes of it (tests/per/README.md has the form of both).
+#![tactic(auto)]
+
 mod line;
 mod numbers;
 mod reading;
 mod room;
 mod writing;
 
-use libc::{STDIN_FILENO, STDOUT_FILENO};
+use std::io::Read;
+use trace_io::input::read_full;
+use trace_io::lines::OUTPUT;
 
 const READ: u8 = 0;
 
@@ -32,7 +36,7 @@ fn print(text: &[u8], n: usize) -> bool {
     if text.len() < n {
         return false;
     }
-    io::write_all(STDOUT_FILENO, &text[0..n])
+    io::write_all(OUTPUT, &text[0..n])
 }
 
 // Writes the line of a frame.
@@ -44,11 +48,11 @@ fn show(frame: &[u8]) -> bool {
 }
 
 // Reads a frame of n octets and writes its line; false where the input ends.
-fn run_frame(room: &mut [u8], n: usize) -> bool {
+fn run_frame<R: Read>(input: &mut R, room: &mut [u8], n: usize) -> bool {
     if room.len() < n {
         return false;
     }
-    let got = io::read_full(STDIN_FILENO, &mut room[0..n]);
+    let got = read_full(input, &mut room[0..n]);
     if got < n {
         return false;
     }
@@ -56,25 +60,26 @@ fn run_frame(room: &mut [u8], n: usize) -> bool {
 }
 
 // One frame: two octets of length, and that many more. False where the input ends.
-fn run_next(room: &mut [u8]) -> bool {
+fn run_next<R: Read>(input: &mut R, room: &mut [u8]) -> bool {
     let mut head = [0u8; 2];
-    let got = io::read_full(STDIN_FILENO, &mut head);
+    let got = read_full(input, &mut head);
     if got < 2 {
         return false;
     }
     let n = numbers::pair(&head, 0);
-    run_frame(room, n as usize)
+    run_frame(input, room, n as usize)
 }
 
 // Frame by frame to the end of the input; the count only makes the loop end.
-fn run(room: &mut [u8]) {
+fn run<R: Read>(input: &mut R, room: &mut [u8]) {
     let mut turns = u64::MAX;
-    while turns > 0 && run_next(room) {
+    while turns > 0 && run_next(input, room) {
         turns -= 1;
     }
 }
 
-fn main() {
+fn main(rt: HostRuntime) {
+    let mut input = rt.stdin();
     let mut room = io::large_buffer();
-    run(&mut room);
+    run(&mut input, &mut room);
 }
