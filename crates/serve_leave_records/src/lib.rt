@@ -1,4 +1,6 @@
 // The records that tell of users who leave: DUin by connection, CDin by channel, TVcf by token.
+#![tactic(auto)]
+
 ghost use Rattle.std.specs.Prelude.{◌≡◌, List, [], ◌∷◌, ◌++◌, ℕ, ◌+◌, ◌-◌, ◌<◌, ◌≤◌, length, take, if◌then◌else◌};
 ghost use Rattle.cols_spec.specs.Sets.{each, ids_above};
 ghost use Rattle.cols_spec.specs.Places.{next as next_in, in_order, picked};
