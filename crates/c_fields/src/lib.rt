@@ -1,4 +1,6 @@
 // The provider over the fields of a struct that are lent one by one, for one lifetime. Its answers are numbers, and a connection is any number of C's.
+#![tactic(auto)]
+
 ghost use Rattle.std.specs.Prelude.{◌≡◌, ◌⊎◌, List, ℕ, ◌<◌};
 ghost use Rattle.cols_spec.specs.Places.{used};
 ghost use Rattle.domain.specs.Tables.{Domain};
