@@ -1,24 +1,23 @@
 -- AUrq and CJrq by cases: what each way through the code has shown is what the request does. Assumes nothing.
-use Rattle.std.specs.Prelude.{if◌then◌else◌}
 use mathlib.Core.Path.{◌≡◌, refl, sym, ap, ◌∙◌}
 use mathlib.Core.Bool.{Bool, true, false}
 use mathlib.Core.List.{List, [], ◌∷◌}
-use mathlib.Core.Option.{Option, none, some}
+use mathlib.Core.Option.{none, some}
 use Prim.Native.Nat.{ℕ, zero, suc, ◌≤◌, ◌<◌}
 use native.Mathlib.Omega.{arith}
 use borrow.Author.Tests.{lt-ltb, le-ltb, eq-eqb, ne_eqb}
 use lib.Dec.{eqb}
-use lib.ListN.{length, get_or, set}
+use lib.ListN.{get_or}
 use Rattle.cols_spec.specs.Sets.{with, only, connections}
 use Rattle.cols_spec.specs.Places.{Place, At, Nowhere, find}
-use Rattle.codec_table.specs.Named.{Message, AUcf, CJcf, successful, no_such_channel, too_many_channels, too_many_users}
-use Rattle.out_records.specs.Records.{Sent, to}
+use Rattle.codec_table.specs.Named.{AUcf, CJcf, successful, no_such_channel, too_many_channels, too_many_users}
+use Rattle.out_records.specs.Records.{to}
 use Rattle.domain.specs.declared.channel.Kind.{Kind}
-use Rattle.domain.specs.declared.channel.Kind.TheVariants.{Static, User, Private, Assigned}
+use Rattle.domain.specs.declared.channel.Kind.TheVariants.{Static, User, Assigned}
 use Rattle.domain.specs.declared.channel.Channel.{Channel}
 use Rattle.domain.specs.Cells.{no_channel, kind, channel_of, with_marks}
 use Rattle.domain.specs.Tables.{Users, Channels, attached, add_user, channel, add_channel, set_channel}
-use Rattle.domain.specs.Effects.{Effect, ignored, done, Settled, settled, delivers, settle, from}
+use Rattle.domain.specs.Effects.{Effect, done, Settled, settled, settle}
 use Rattle.domain.specs.Channels.{attach, may, join_at, join_new, join}
 use Rattle.serve_reply.proofs.Sending.{Told, did_nothing, did_refuse, did}
 use Rattle.serve_reply.proofs.Initiators.{from_at, from_nobody}

@@ -1,4 +1,6 @@
 // Requests about users and channels, on lent columns: AUrq, CJrq, CLrq. Each decides, sends where there is room, then stores.
+#![tactic(auto)]
+
 ghost use Rattle.std.specs.Prelude.{◌≡◌, ◌&&◌, List, [], ◌∷◌, ℕ, ◌<◌, eqb, take, length};
 ghost use Rattle.std.proofs.Math.Option.{some};
 ghost use Rattle.codec_table.specs.Named.{CJcf, successful};
