@@ -1,4 +1,6 @@
 // The line that says where the reading of a message stopped, and why.
+#![tactic(auto)]
+
 ghost use Rattle.std.specs.Prelude.{◌≡◌, [], ◌∷◌};
 ghost use Rattle.trace_io.specs.Lines.{Says};
 ghost use Rattle.explain_stop.specs.StopLine.{items_place, part_text, why_place, number_in, place_texts, stop_texts, Tells};
