@@ -2,18 +2,15 @@
 use Rattle.std.specs.Prelude.{if◌then◌else◌}
 use mathlib.Core.Path.{◌≡◌, refl, sym, ap, ◌∙◌}
 use mathlib.Core.Bool.{Bool, true, false}
-use mathlib.Core.List.{List, [], ◌∷◌, ◌++◌}
-use Prim.Native.Nat.{ℕ, zero, suc, ◌≤◌, ◌<◌}
-use native.Mathlib.Omega.{arith}
-use lib.Dec.{eqb, ltb}
-use lib.ListN.{length, get_or, take, drop}
-use Rattle.cols_spec.specs.Sets.{null}
-use Rattle.out_records.specs.Records.{Sent, records}
+use mathlib.Core.List.{List}
+use Prim.Native.Nat.{ℕ}
+use lib.Dec.{eqb}
+use lib.ListN.{get_or}
 use Rattle.domain.specs.declared.channel.Channel.{Channel}
 use Rattle.domain.specs.Cells.{no_channel}
 use Rattle.domain.specs.Tables.{Users, Channels, channel, set_channel}
-use Rattle.domain.specs.Effects.{Effect, ignored, done, Settled, settled, delivers, settle}
-use Rattle.domain.specs.Channels.{manages, places, own, attached_of, admitted_of, admit, expel}
+use Rattle.domain.specs.Effects.{Effect, ignored, settled, settle}
+use Rattle.domain.specs.Channels.{manages, places, attached_of, admitted_of, admit, expel}
 use Rattle.serve_private_tell.specs.declared.Pick.{Pick}
 use Rattle.serve_private_tell.specs.declared.Say.{Say}
 use Rattle.serve_private_tell.specs.declared.Say.TheVariants.{Admits, Expels}

@@ -3,21 +3,21 @@ use Rattle.std.specs.Prelude.{if◌then◌else◌}
 use mathlib.Core.Path.{◌≡◌, refl, sym, ap, ◌∙◌}
 use mathlib.Core.Bool.{Bool, true, false}
 use mathlib.Core.List.{List, [], ◌∷◌}
-use mathlib.Core.Option.{Option, none, some}
-use Prim.Native.Nat.{ℕ, ◌≤◌, ◌<◌}
+use mathlib.Core.Option.{none, some}
+use Prim.Native.Nat.{ℕ}
 use native.Mathlib.Omega.{arith}
 use lib.Dec.{eqb}
-use lib.ListN.{length, get_or}
+use lib.ListN.{get_or}
 use Rattle.cols_spec.specs.Sets.{with, seats}
 use Rattle.cols_spec.specs.Places.{Place, At, Nowhere, find}
-use Rattle.codec_table.specs.Named.{Message, CCcf, CDin, successful, too_many_channels}
-use Rattle.out_records.specs.Records.{Sent, to, tell}
+use Rattle.codec_table.specs.Named.{CCcf, CDin, successful, too_many_channels}
+use Rattle.out_records.specs.Records.{to, tell}
 use Rattle.domain.specs.declared.channel.Kind.{Kind}
 use Rattle.domain.specs.declared.channel.Kind.TheVariants.{Static, User, Private, Assigned}
 use Rattle.domain.specs.declared.channel.Channel.{Channel}
 use Rattle.domain.specs.Cells.{no_channel, kind, channel_of}
 use Rattle.domain.specs.Tables.{Users, Channels, attached, hosts, channel, add_channel, end_channel}
-use Rattle.domain.specs.Effects.{Effect, ignored, done, Settled, settled, delivers, settle, from}
+use Rattle.domain.specs.Effects.{Effect, ignored, done, settled, delivers, settle}
 use Rattle.domain.specs.Channels.{convene, owned, manages, disband}
 use Rattle.serve_reply.proofs.Sending.{Told, did_nothing, did_refuse, did}
 use Rattle.serve_reply.proofs.Initiators.{from_at, from_nobody}

@@ -1,4 +1,6 @@
 // Requests about private channels, on lent columns: CCrq, CDrq, CArq, CErq. Each decides, sends where there is room, then stores.
+#![tactic(auto)]
+
 ghost use Rattle.std.specs.Prelude.{◌≡◌, true, false, List, ℕ, ◌≤◌, ◌<◌, eqb, take, if◌then◌else◌};
 ghost use Rattle.cols_spec.specs.Sets.{with, seats};
 ghost use Rattle.domain.specs.Cells.{kind};
