@@ -1,2 +1,4 @@
 // Messages in words.
+#![tactic(auto)]
+
 pub mod message;
