@@ -1,4 +1,6 @@
 // What comes of a request about a token, decided on the columns as they are: nothing is stored yet, and nothing sent.
+#![tactic(auto)]
+
 ghost use Rattle.std.specs.Prelude.{◌≡◌, true, false, [], ◌∷◌, ◌<◌, ◌≤◌, get_or};
 ghost use Rattle.cols_spec.specs.Places.{At, Nowhere, find as find_in};
 ghost use Rattle.codec_table.specs.Named.{TVin};
