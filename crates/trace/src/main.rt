@@ -1,4 +1,7 @@
 // The trace program: frames from standard input, a line for each on standard output.
-fn main() {
-    trace_run::run(trace_run::Form::Lines);
+#![tactic(auto)]
+
+fn main(rt: HostRuntime) {
+    let mut source = rt.stdin();
+    trace_run::run(trace_run::Form::Lines, &mut source);
 }

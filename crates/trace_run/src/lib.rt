@@ -1,10 +1,12 @@
-// The trace program's run: reads frames from standard input, plays each on the domain, and prints a line for each.
+// The trace program's run: reads frames, plays each on the domain, and prints a line for each.
+#![tactic(auto)]
+
 ghost use Rattle.std.specs.Prelude.{◌≤◌, length};
 
 use domain::Limits;
 use domain::answer::Answer;
 use domain::numbers::Reply;
-use libc::STDIN_FILENO;
+use std::io::Read;
 use trace_frames::{Frame, Kind};
 use trace_io::input::Span;
 use trace_io::lines::Report;
@@ -13,7 +15,7 @@ use trace_io::lines::Report;
 const ROOM: usize = 17200;
 
 // How a run shows its frames: a line each, a line and the octets sent, or in words.
-#[derive(Drop)]
+#[derive(Clone, Copy)]
 pub enum Form {
     Lines,
     Sent,
@@ -21,7 +23,7 @@ pub enum Form {
 }
 
 // Where the run stands: what is not taken of the input, what is filled of the output, the number of the next frame, and whether to go on.
-#[derive(Drop)]
+#[derive(Clone, Copy)]
 struct Turn {
     span: Span,
     filled: usize,
@@ -30,7 +32,7 @@ struct Turn {
 }
 
 // What was taken from the front of the input: its answer, if it prints a line, how many octets it is long, and whether the run goes on.
-#[derive(Drop)]
+#[derive(Clone, Copy)]
 struct Taken {
     reply: u64,
     sent: usize,
@@ -279,7 +281,8 @@ fn behind(span: Span, size: usize) -> Span {
 }
 
 // Takes one frame and shows it. The run goes on behind a good frame.
-fn step(
+fn step<R: Read>(
+    source: &mut R,
     input: &mut [u8],
     output: &mut [u8],
     limits: Limits,
@@ -302,7 +305,7 @@ fn step(
     at: Turn,
 ) -> Turn {
     let have = at.span;
-    let span = trace_io::input::ready(STDIN_FILENO, input, have);
+    let span = trace_io::input::ready(source, input, have);
     let from = span.from;
     let to = span.to;
     let taken = take_frame(
@@ -349,13 +352,14 @@ fn step(
     Turn {
         span: rest,
         filled,
-        number: std::num::wrapping_add_u64(at.number, 1),
+        number: at.number.wrapping_add(1),
         more: taken.more,
     }
 }
 
 // A proved loop has to end, and nothing says that the input does: the loop counts its turns down from a number that no run uses up.
-fn play(
+fn play<R: Read>(
+    source: &mut R,
     input: &mut [u8],
     output: &mut [u8],
     limits: Limits,
@@ -385,6 +389,7 @@ fn play(
     let mut turns = u64::MAX;
     while turns > 0 && at.more {
         at = step(
+            source,
             input,
             output,
             limits,
@@ -420,9 +425,9 @@ fn play(
     trace_io::lines::flush(output, filled);
 }
 
-// A fresh domain with limits 128, 64, 64. The input's buffer holds the longest frame, 65,537 octets, and as much again, so that few octets are
+// A fresh domain with limits 128, 64, 64, and frames from a source. The input's buffer holds the longest frame, 65,537 octets, and as much again, so that few octets are
 // moved. The tokens as they were before a frame stand beside the tables, for a run in words.
-pub fn run(form: Form) {
+pub fn run<R: Read>(form: Form, source: &mut R) {
     let mut input = [0u8; 131072];
     let mut output = [0u8; 65536];
     let mut room = [0u8; ROOM];
@@ -457,6 +462,7 @@ pub fn run(form: Form) {
         &mut token_values,
     );
     play(
+        source,
         &mut input,
         &mut output,
         started.limits,
