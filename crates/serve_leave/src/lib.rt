@@ -1,5 +1,7 @@
 // Leaving: the users listed in a DUrq, or all those of a connection that closes. They leave together, judged on the tables before. Who
 // leaves is listed first: their ids in a list that is lent, and their places.
+#![tactic(auto)]
+
 ghost use Rattle.std.specs.Prelude.{◌≡◌, List, ℕ, ◌%◌, ◌≤◌, ◌<◌, length, take, if◌then◌else◌};
 ghost use Rattle.cols_spec.specs.Sets.{without, once, connections as all_links};
 ghost use Rattle.cols_spec.specs.Places.{in_order};
