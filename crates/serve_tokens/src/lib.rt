@@ -1,4 +1,6 @@
 // Requests about tokens, on lent columns: TGrq, TIrq, TRrq, TVrq, TVrs, TPrq, TTrq. Each decides, refuses what has no room, then stores and sends.
+#![tactic(auto)]
+
 ghost use Rattle.std.specs.Prelude.{◌≡◌, ℕ, eqb, if◌then◌else◌};
 ghost use Rattle.cols_spec.specs.Places.{At, find};
 ghost use Rattle.out_records.specs.Records.{to};
