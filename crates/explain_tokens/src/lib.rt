@@ -1,4 +1,6 @@
 // Who holds or is offered which token: the changes that a frame made, and the table.
+#![tactic(auto)]
+
 ghost use Rattle.std.specs.Prelude.{◌≡◌, ◌∷◌, ◌<◌, get_or, set, if◌then◌else◌};
 ghost use Rattle.cols_spec.specs.Sets.{has};
 ghost use Rattle.cols_spec.specs.Places.{in_order};
