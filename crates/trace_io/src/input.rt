@@ -68,7 +68,7 @@ pub fn to_start(buf: &mut [u8], have: Span) -> usize
 }
 
 // Reads once, and answers how many octets came. A read that fails brings none.
-pub fn read_once<R: Read>(input: &mut R, room: &mut [u8]) -> usize
+fn read_once<R: Read>(input: &mut R, room: &mut [u8]) -> usize
     ensures { result ≤ length room.new }
 {
     match input.read(room) {
