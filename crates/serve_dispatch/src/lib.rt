@@ -1,4 +1,6 @@
 // A request on an open connection, by its number: on lent columns, with any contents. Those about tokens are in `serve_tokens`.
+#![tactic(auto)]
+
 ghost use Rattle.std.specs.Prelude.{◌≡◌, ℕ, take};
 ghost use Rattle.domain.specs.declared.Limits.{Limits as LimitsOf};
 ghost use Rattle.domain.specs.Tables.{Tokens, grant};
