@@ -1,4 +1,6 @@
 // Numbers, lengths and ids that start on an octet (X.691, aligned basic variant), and the bits left of an octet begun.
+#![tactic(auto)]
+
 ghost use Rattle.std.specs.Prelude.{◌≡◌, ◌+◌, ◌*◌, ◌-◌, ◌<◌, ◌≤◌, length, drop};
 ghost use Rattle.codec_octets.specs.Octets.{read_length, read_item, an_id, a_number, fewest, counted, size};
 ghost use Rattle.codec_octets.specs.Places.{left_at, Octetwise};

@@ -11,7 +11,7 @@ use lib.Dec.{leb, ltb}
 use borrow.Author.Tests.{ltb-true, leb-true, eqb-true, lt-ltb, le-leb}
 use Rattle.codec_octets.specs.Octets.{Bytes, Item, an_octet, an_id, a_number, fits_item, fits_items, Tail, nothing, list, fits_tail, octets_of, length_octets, size, write_item, write_items, write_tail}
 use Rattle.codec_table.specs.Limits.{list_limit, string_limit, message_limit}
-use Rattle.codec_table.specs.Messages.{Field, code, item, Way, down, Row, plain, optional, uncovered, unknown, table, entry, row}
+use Rattle.codec_table.specs.Messages.{Field, code, item, Way, down, Row, plain, optional, uncovered, unknown, entry, row}
 use Rattle.codec_table.specs.Codec.{fits_field, fits_fields, Msg, chosen, fits_row, octets_of_msg, Outcome, ok, refuse, sized, decode}
 use Rattle.codec_table.specs.Named.{Message, EDrq, DPum, RJum, AUrq, AUcf, DUrq, DUin, CJrq, CJcf, CLrq, CCrq, CCcf, CDrq, CDin, CArq, CAin, CErq, CEin}
 use Rattle.codec_table.specs.Named.{TGrq, TGcf, TIrq, TIcf, TVrq, TVin, TVrs, TVcf, TPrq, TPin, TRrq, TRcf, TTrq, TTcf}

@@ -6,11 +6,11 @@ use Prim.Native.Nat.{ℕ, zero, suc, ◌+◌, ◌-◌, ◌*◌, ◌/◌, ◌%◌
 use native.Mathlib.Omega.{arith}
 use lib.Dec.{leb, ltb, eqb}
 use lib.ListN.{get_or}
-use Rattle.codec_octets.specs.Octets.{Bytes, Read, got, no, Reader, follow, ◌>>=◌, give, fail, need, octet, number_from, number, two_octets, read_length, size, fewest, counted, Item, an_octet, an_id, a_number, read_item, read_items, Tail, nothing, list, read_tail}
+use Rattle.codec_octets.specs.Octets.{Bytes, Read, got, no, Reader, follow, ◌>>=◌, give, need, octet, number_from, number, two_octets, read_length, size, fewest, counted, Item, an_octet, an_id, a_number, read_item, read_items, Tail, nothing, list, read_tail}
 use Rattle.codec_octets.specs.Bits.{after, cut, take_bits}
 use Rattle.codec_octets.proofs.OctetLaws.{followed, needed}
 use Rattle.codec_table.specs.Messages.{Field, code, item, Row, plain, optional, uncovered, unknown, kind, presence, row}
-use Rattle.codec_table.specs.Codec.{left_after, take_field, take_fields, take_body, chosen, take_row, Msg, read_msg, Outcome, ok, refuse, ending, sized, decode}
+use Rattle.codec_table.specs.Codec.{left_after, take_field, take_fields, take_body, chosen, take_row, Msg, read_msg, ok, refuse, ending, sized, decode}
 use Rattle.codec_table.proofs.CodecLaws.{taken, ended}
 
 -- the codec's refusals

@@ -1,4 +1,6 @@
 // The table of the 43 messages, looked up by number, and the limits.
+#![tactic(auto)]
+
 ghost use Rattle.std.specs.Prelude.{◌≡◌, not, ◌%◌, ◌≤◌, eqb};
 ghost use Rattle.codec_table.specs.Messages.{may_go_up, is_served, is_covered};
 ghost use Rattle.codec_table.specs.Columns.{way_at, packed_at, digit, form_at, count_at, tail_at, kind_in, kind_at};

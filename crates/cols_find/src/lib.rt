@@ -1,4 +1,6 @@
 // Where an id stands in a column, and how many places are in use. A place whose id is 0 is free. A place that is nowhere is answered as the column's length.
+#![tactic(auto)]
+
 ghost use Rattle.std.specs.Prelude.{◌≡◌, ◌+◌, ◌<◌, ◌≤◌, ◌-◌, true, length, get_or, drop, [], ◌∷◌, if◌then◌else◌};
 ghost use Rattle.cols_spec.specs.Places.{first as first_in, find as find_in, spare as spare_in, number, used as used_in};
 

@@ -1,4 +1,6 @@
 // A mask is a number that stands for a set of small numbers: connections 0 to 15, or user places 0 to 63.
+#![tactic(auto)]
+
 ghost use Rattle.std.specs.Prelude.{◌≡◌, length};
 ghost use Rattle.cols_spec.specs.Sets.{has as has_in, with as with_of, without as without_of, only as only_of, meet as meet_of, minus as minus_of, union as union_of, listed, connections, seats, NextIn};
 

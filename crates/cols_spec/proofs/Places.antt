@@ -10,7 +10,7 @@ use native.Mathlib.Numerals.{add-one}
 use native.Mathlib.Omega.{arith}
 use lib.Dec.{eqb}
 use lib.ListN.{length, get_or, set, take, drop, drop_of_length-le}
-use lib.Seq.{drop-cons, drop-set-lt, take-suc-set, append_snoc, take_all, set-get_or}
+use lib.Seq.{drop-cons, drop-set-lt, take-suc-set, append_snoc, take_all}
 use borrow.Author.Tests.{eq-eqb, ne_eqb, not-true}
 use Rattle.cols_spec.specs.Sets.{member}
 use Rattle.cols_spec.specs.Places.{Place, At, Nowhere, first, becomes, sweep, distinct}

@@ -10,7 +10,7 @@ use lib.Dec.{ltb}
 use lib.ListN.{length, get_or, take, drop, drop_of_length-le, length-append, length-take}
 use lib.Seq.{drop-cons, take-suc, take_all, take-add}
 use borrow.Author.Tests.{eq-eqb, ne_eqb, lt-ltb, le-ltb, ltb-true, ltb-false}
-use Rattle.cols_spec.specs.Sets.{keep, any, upto, member, has, listed}
+use Rattle.cols_spec.specs.Sets.{keep, any, member}
 use Rattle.cols_spec.specs.Places.{Place, At, Nowhere, find, used, lesser, next, rising, unused}
 use Rattle.cols_spec.proofs.Order.{keep_le}
 

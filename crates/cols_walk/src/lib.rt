@@ -1,4 +1,6 @@
 // Walks over a column of ids, its order, and what is free in it. A place whose id is 0 is free. A place that is nowhere is answered as the column's length.
+#![tactic(auto)]
+
 ghost use Rattle.std.specs.Prelude.{◌≡◌, true, false, [], ◌∷◌, ℕ, ◌+◌, ◌-◌, ◌*◌, ◌<◌, ◌≤◌, min, eqb, length, take, drop, get_or, if◌then◌else◌};
 ghost use Rattle.cols_spec.specs.Sets.{member as member_of, has as has_in, ids_above, Gap};
 ghost use Rattle.cols_spec.specs.Places.{first as first_in, busy, InRow, next as next_in, number, picked, unused as unused_in};

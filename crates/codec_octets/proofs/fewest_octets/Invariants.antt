@@ -1,7 +1,5 @@
-use borrow.Author.Rules.{rules}
-use native.Mathlib.Omega.{arith}
 use Prim.Native.Nat.{◌-◌}
-use Rattle.codec_octets.proofs.Numbers.{Sofar, sofar_none, sofar_fits, sofar_more, fewest_short, fewest_more, fewest_is}
+use Rattle.codec_octets.proofs.Numbers.{Sofar}
 use Rattle.codec_octets.proofs.fewest_octets.Given as goal
 
 abbrev pub invariant-loop-j : goal.invariant-loop-j

@@ -1,4 +1,3 @@
-use borrow.Author.Rules.{rules}
 use Rattle.codec_octets.proofs.Numbers.{number_no, number_is}
 use Rattle.codec_octets.proofs.Reading.{ends_value}
 use Rattle.codec_octets.proofs.read_number.Goals as goal

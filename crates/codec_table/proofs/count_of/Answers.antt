@@ -1,6 +1,5 @@
 use mathlib.Core.Path.{◌∙◌}
 use native.Mathlib.Omega.{arith}
-use borrow.Author.Rules.{rules}
 use Rattle.codec_table.proofs.ColumnLaws.{count_at_lem, count_few}
 use Rattle.codec_table.proofs.count_of.Goals as goal
 

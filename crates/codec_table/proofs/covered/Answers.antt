@@ -1,4 +1,3 @@
-use borrow.Author.Rules.{rules}
 use Rattle.codec_table.proofs.ColumnLaws.{covered_at}
 use Rattle.codec_table.proofs.covered.Goals as goal
 

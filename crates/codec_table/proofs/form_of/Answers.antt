@@ -1,5 +1,4 @@
 use mathlib.Core.Path.{◌∙◌}
-use borrow.Author.Rules.{rules}
 use Rattle.codec_table.proofs.ColumnLaws.{form_at_lem}
 use Rattle.codec_table.proofs.form_of.Goals as goal
 

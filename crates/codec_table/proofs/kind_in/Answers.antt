@@ -1,4 +1,3 @@
-use borrow.Author.Rules.{rules}
 use Rattle.codec_table.proofs.ColumnLaws.{none_of, kind_none}
 use Rattle.codec_table.specs.Columns.{kind_in}
 use Rattle.codec_table.proofs.kind_in.Goals as goal

@@ -1,5 +1,4 @@
 use mathlib.Core.Path.{◌∙◌}
-use borrow.Author.Rules.{rules}
 use Rattle.codec_table.proofs.ColumnLaws.{up_at}
 use Rattle.codec_table.proofs.may_go_up.Goals as goal
 

@@ -1,5 +1,4 @@
 use mathlib.Core.Path.{◌∙◌}
-use borrow.Author.Rules.{rules}
 use Rattle.codec_table.proofs.ColumnLaws.{served_at}
 use Rattle.codec_table.proofs.served.Goals as goal
 

@@ -1,5 +1,4 @@
 use mathlib.Core.Path.{◌∙◌}
-use borrow.Author.Rules.{rules}
 use Rattle.codec_table.proofs.ColumnLaws.{tail_at_lem}
 use Rattle.codec_table.proofs.tail_of.Goals as goal
 

@@ -1,10 +1,9 @@
 -- The loop adds up what each place brings.
-use Prim.Native.Nat.{◌≤◌, ◌-◌}
 use mathlib.Core.Path.{refl}
 use native.Mathlib.Omega.{arith}
 use borrow.Author.Rules.{rules}
 use Rattle.cols_find.proofs.Looked.{past}
-use Rattle.cols_find.proofs.Summed.{Summed, summed_none, summed_next}
+use Rattle.cols_find.proofs.Summed.{summed_none, summed_next}
 use Rattle.cols_find.proofs.alone.Goals as goal
 
 pub loop-k-init : goal.loop-k-init

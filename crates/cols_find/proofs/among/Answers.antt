@@ -1,7 +1,6 @@
 -- The loop looks at one place after the other.
-use Prim.Native.Nat.{◌-◌}
 use borrow.Author.Rules.{rules}
-use Rattle.cols_find.proofs.Looked.{Looked, looked_at_none, looked_at_next, looked_at_all}
+use Rattle.cols_find.proofs.Looked.{looked_at_none, looked_at_next, looked_at_all}
 use Rattle.cols_find.proofs.among.Goals as goal
 
 pub loop-k-init : goal.loop-k-init

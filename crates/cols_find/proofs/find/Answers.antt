@@ -1,7 +1,6 @@
 -- 0 is no id; any other is sought.
 use mathlib.Core.Path.{sym, ◌∙◌}
 use borrow.Author.Tests.{eq-eqb, ne_eqb}
-use borrow.Author.Rules.{rules}
 use Rattle.cols_spec.specs.Places.{find, number}
 use Rattle.cols_find.proofs.find.Goals as goal
 

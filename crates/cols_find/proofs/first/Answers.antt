@@ -1,11 +1,10 @@
 -- The loop goes up: x does not stand before i.
-use Prim.Native.Nat.{ℕ, ◌≤◌, ◌-◌}
-use mathlib.Core.Path.{◌≡◌, refl, sym, ap, ◌∙◌}
+use mathlib.Core.Path.{◌≡◌, sym, ap, ◌∙◌}
 use native.Mathlib.Omega.{arith}
 use native.Mathlib.Numerals.{add-one}
-use lib.ListN.{length, drop}
+use lib.ListN.{length}
 use borrow.Author.Rules.{rules}
-use Rattle.cols_spec.specs.Places.{first, number}
+use Rattle.cols_spec.specs.Places.{number}
 use Rattle.cols_spec.proofs.Places.{first_hit, first_miss, first_none}
 use Rattle.cols_find.proofs.first.Goals as goal
 

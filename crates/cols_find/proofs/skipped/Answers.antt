@@ -1,10 +1,7 @@
 -- The loop goes up, 64 places at a time: x does not stand before i.
-use Prim.Native.Nat.{◌≤◌, ◌-◌}
 use mathlib.Core.Path.{◌≡◌, refl, ◌∙◌}
 use native.Mathlib.Omega.{arith}
-use lib.ListN.{length, drop}
 use borrow.Author.Rules.{rules}
-use Rattle.cols_spec.specs.Places.{first}
 use Rattle.cols_find.proofs.skipped.Goals as goal
 
 pub loop-i-init : goal.loop-i-init

@@ -1,9 +1,7 @@
 -- The loop goes up, 64 places at a time: x does not stand before i.
 use Prim.Native.Nat.{◌≤◌, ◌-◌}
-use mathlib.Core.Path.{◌≡◌, refl, ◌∙◌}
-use native.Mathlib.Omega.{arith}
+use mathlib.Core.Path.{◌≡◌}
 use lib.ListN.{length, drop}
-use borrow.Author.Rules.{rules}
 use Rattle.cols_spec.specs.Places.{first}
 use Rattle.cols_find.proofs.skipped.Given as goal
 

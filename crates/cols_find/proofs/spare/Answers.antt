@@ -1,5 +1,4 @@
 -- A free place is one whose id is 0.
-use borrow.Author.Rules.{rules}
 use Rattle.cols_spec.specs.Places.{spare}
 use Rattle.cols_find.proofs.spare.Goals as goal
 

@@ -1,8 +1,8 @@
 -- The places passed are counted.
-use Prim.Native.Nat.{ℕ, ◌+◌, ◌≤◌, ◌-◌}
+use Prim.Native.Nat.{ℕ, ◌+◌, ◌-◌}
 use mathlib.Core.Path.{ap₂, ◌≡◌, refl, sym, ◌∙◌}
 use native.Mathlib.Omega.{arith}
-use lib.ListN.{length, take, length-take, length-drop}
+use lib.ListN.{length-take, length-drop}
 use borrow.Author.Rules.{rules}
 use Rattle.cols_spec.specs.Sets.{keep}
 use Rattle.cols_spec.specs.Places.{used}

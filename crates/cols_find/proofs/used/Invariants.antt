@@ -1,12 +1,8 @@
 -- The places passed are counted.
-use Prim.Native.Nat.{ℕ, ◌+◌, ◌≤◌, ◌-◌}
-use mathlib.Core.Path.{ap₂, ◌≡◌, refl, sym, ◌∙◌}
-use native.Mathlib.Omega.{arith}
-use lib.ListN.{length, take, length-take, length-drop}
-use borrow.Author.Rules.{rules}
-use Rattle.cols_spec.specs.Sets.{keep}
+use Prim.Native.Nat.{◌≤◌, ◌-◌}
+use mathlib.Core.Path.{◌≡◌}
+use lib.ListN.{length, take}
 use Rattle.cols_spec.specs.Places.{used}
-use Rattle.cols_spec.proofs.Turns.{used_part, part_within, used_end}
 use Rattle.cols_find.proofs.used.Given as goal
 
 abbrev pub invariant-loop-i : goal.invariant-loop-i

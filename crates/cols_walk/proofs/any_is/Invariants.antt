@@ -2,13 +2,7 @@
 use Prim.Native.Nat.{ℕ, ◌-◌, ◌≤◌, ◌<◌}
 use mathlib.Core.Path.{◌≡◌}
 use mathlib.Core.Bool.{false}
-use native.Mathlib.Omega.{arith}
-use lib.Dec.{eqb}
 use lib.ListN.{length, get_or}
-use borrow.Author.Count.{below_more}
-use borrow.Author.Tests.{eqb-false}
-use borrow.Author.Rules.{rules}
-use Rattle.cols_spec.proofs.Bools.{or_parts}
 use Rattle.cols_walk.proofs.any_is.Given as goal
 
 abbrev pub invariant-loop-i : goal.invariant-loop-i

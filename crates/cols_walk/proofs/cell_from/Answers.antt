@@ -1,11 +1,10 @@
 -- The loop goes up: no cell before i is k.
-use Prim.Native.Nat.{◌≤◌, ◌-◌}
 use mathlib.Core.Path.{◌≡◌, sym, ap, ◌∙◌}
 use native.Mathlib.Omega.{arith}
 use native.Mathlib.Numerals.{add-one}
-use lib.ListN.{length, drop}
+use lib.ListN.{length}
 use borrow.Author.Rules.{rules}
-use Rattle.cols_spec.specs.Places.{first, number}
+use Rattle.cols_spec.specs.Places.{number}
 use Rattle.cols_spec.proofs.Places.{first_hit, first_miss, first_none}
 use Rattle.cols_walk.proofs.cell_from.Goals as goal
 

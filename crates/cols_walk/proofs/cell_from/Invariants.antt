@@ -1,12 +1,8 @@
 -- The loop goes up: no cell before i is k.
 use Prim.Native.Nat.{◌≤◌, ◌-◌}
-use mathlib.Core.Path.{◌≡◌, sym, ap, ◌∙◌}
-use native.Mathlib.Omega.{arith}
-use native.Mathlib.Numerals.{add-one}
+use mathlib.Core.Path.{◌≡◌}
 use lib.ListN.{length, drop}
-use borrow.Author.Rules.{rules}
-use Rattle.cols_spec.specs.Places.{first, number}
-use Rattle.cols_spec.proofs.Places.{first_hit, first_miss, first_none}
+use Rattle.cols_spec.specs.Places.{first}
 use Rattle.cols_walk.proofs.cell_from.Given as goal
 
 abbrev pub invariant-loop-i : goal.invariant-loop-i

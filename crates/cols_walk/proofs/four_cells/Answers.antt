@@ -1,5 +1,4 @@
 -- Both pairs are passed.
-use borrow.Author.Rules.{rules}
 use Rattle.cols_walk.proofs.Widths.{passed}
 use Rattle.cols_walk.proofs.four_cells.Goals as goal
 

@@ -2,7 +2,6 @@
 use native.Mathlib.Omega.{arith}
 use lib.Count.{trailing_le}
 use Rattle.cols_spec.proofs.Gaps.{gap_of}
-use borrow.Author.Rules.{rules}
 use Rattle.cols_walk.proofs.gap.Goals as goal
 
 pub overflow_cast-result : goal.overflow_cast-result

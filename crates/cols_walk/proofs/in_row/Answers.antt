@@ -1,10 +1,6 @@
 -- The loop goes up, eight places at a time: those before i are in a row.
-use Prim.Native.Nat.{◌≤◌, ◌-◌}
 use native.Mathlib.Omega.{arith}
-use lib.ListN.{length}
 use borrow.Author.Rules.{rules}
-use borrow.Author.Tests.{not-false}
-use Rattle.cols_spec.specs.Places.{InRow}
 use Rattle.cols_spec.proofs.Busy.{row_on}
 use Rattle.cols_walk.proofs.in_row.Goals as goal
 

@@ -1,10 +1,9 @@
 -- The places passed are marked, eight at a time.
-use Prim.Native.Nat.{◌+◌, ◌-◌, ◌≤◌}
-use mathlib.Core.Path.{◌≡◌, ap₂, ◌∙◌}
+use Prim.Native.Nat.{◌+◌, ◌-◌}
+use mathlib.Core.Path.{ap₂, ◌∙◌}
 use native.Mathlib.Omega.{arith}
 use lib.Bits.{bit_or}
-use lib.ListN.{length, take}
-use Rattle.cols_spec.specs.Sets.{ids_above}
+use lib.ListN.{length}
 use Rattle.cols_spec.proofs.Gaps.{marked_none, marked_part, marked_end}
 use borrow.Author.Rules.{rules}
 use Rattle.cols_walk.proofs.marks.Goals as goal

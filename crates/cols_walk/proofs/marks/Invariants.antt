@@ -1,12 +1,8 @@
 -- The places passed are marked, eight at a time.
-use Prim.Native.Nat.{◌+◌, ◌-◌, ◌≤◌}
-use mathlib.Core.Path.{◌≡◌, ap₂, ◌∙◌}
-use native.Mathlib.Omega.{arith}
-use lib.Bits.{bit_or}
+use Prim.Native.Nat.{◌-◌, ◌≤◌}
+use mathlib.Core.Path.{◌≡◌}
 use lib.ListN.{length, take}
 use Rattle.cols_spec.specs.Sets.{ids_above}
-use Rattle.cols_spec.proofs.Gaps.{marked_none, marked_part, marked_end}
-use borrow.Author.Rules.{rules}
 use Rattle.cols_walk.proofs.marks.Given as goal
 
 abbrev pub invariant-loop-i : goal.invariant-loop-i

@@ -1,12 +1,8 @@
 -- The places passed are marked.
 use Prim.Native.Nat.{◌-◌, ◌≤◌}
-use mathlib.Core.Path.{◌≡◌, ap₂, ◌∙◌}
-use native.Mathlib.Numerals.{add-one}
-use lib.Bits.{bit_or}
+use mathlib.Core.Path.{◌≡◌}
 use lib.ListN.{length, take}
 use Rattle.cols_spec.specs.Sets.{ids_above}
-use Rattle.cols_spec.proofs.Gaps.{marked_none, marked_one, marked_end}
-use borrow.Author.Rules.{rules}
 use Rattle.cols_walk.proofs.marks_of.Given as goal
 
 abbrev pub invariant-loop-i : goal.invariant-loop-i

@@ -5,7 +5,6 @@ use native.Mathlib.Omega.{arith}
 use lib.ListN.{take, drop}
 use Rattle.cols_spec.specs.Sets.{ids_above}
 use Rattle.cols_spec.proofs.Gaps.{marked_free}
-use borrow.Author.Rules.{rules}
 use Rattle.cols_walk.proofs.marks_of_eight.Goals as goal
 
 pub returns-then-row_of_eight : goal.returns-then-row_of_eight

@@ -1,10 +1,7 @@
 -- What is left to look at decides.
-use Prim.Native.Nat.{◌≤◌, ◌-◌}
-use mathlib.Core.Path.{◌≡◌, refl, sym, ◌∙◌}
+use mathlib.Core.Path.{refl, sym, ◌∙◌}
 use native.Mathlib.Numerals.{add-one}
-use lib.ListN.{length, drop}
 use borrow.Author.Rules.{rules}
-use Rattle.cols_spec.specs.Sets.{member}
 use Rattle.cols_spec.proofs.Turns.{member_hit, member_miss, member_end}
 use Rattle.cols_walk.proofs.member.Goals as goal
 

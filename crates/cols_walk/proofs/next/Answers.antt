@@ -1,10 +1,9 @@
 -- What is left to look at decides, from the least so far.
-use Prim.Native.Nat.{◌-◌, ◌≤◌}
 use mathlib.Core.Path.{refl}
 use native.Mathlib.Omega.{arith}
-use lib.ListN.{length, get_or}
+use lib.ListN.{get_or}
 use borrow.Author.Rules.{rules}
-use Rattle.cols_spec.proofs.Turns.{Seeking, seek_start, seek_turn, seek_end}
+use Rattle.cols_spec.proofs.Turns.{seek_start, seek_turn, seek_end}
 use Rattle.cols_walk.proofs.next.Goals as goal
 
 pub loop-i-init : goal.loop-i-init

@@ -1,10 +1,7 @@
 -- What is left to look at decides, from the least so far.
-use Prim.Native.Nat.{◌-◌, ◌≤◌}
-use mathlib.Core.Path.{refl}
-use native.Mathlib.Omega.{arith}
-use lib.ListN.{length, get_or}
-use borrow.Author.Rules.{rules}
-use Rattle.cols_spec.proofs.Turns.{Seeking, seek_start, seek_turn, seek_end}
+use Prim.Native.Nat.{◌-◌}
+use lib.ListN.{length}
+use Rattle.cols_spec.proofs.Turns.{Seeking}
 use Rattle.cols_walk.proofs.next.Given as goal
 
 abbrev pub invariant-loop-i : goal.invariant-loop-i

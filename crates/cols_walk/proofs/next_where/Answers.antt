@@ -1,13 +1,12 @@
 -- The same over the ids that pass, at their own places.
-use Prim.Native.Nat.{ℕ, ◌-◌}
+use Prim.Native.Nat.{ℕ}
 use native.Mathlib.Omega.{arith}
-use mathlib.Core.Path.{◌≡◌, sym, ◌∙◌}
+use mathlib.Core.Path.{sym, ◌∙◌}
 use mathlib.Core.Bool.{Bool}
 use lib.Dec.{eqb}
-use lib.ListN.{length, get_or}
+use lib.ListN.{get_or}
 use borrow.Author.Rules.{rules}
-use Rattle.cols_spec.specs.Places.{picked}
-use Rattle.cols_spec.proofs.Turns.{Seeking, seek_start, seek_turn, seek_end}
+use Rattle.cols_spec.proofs.Turns.{seek_start, seek_turn, seek_end}
 use Rattle.cols_spec.proofs.Kept.{picked_length, picked_at}
 use Rattle.cols_walk.proofs.next_where.Goals as goal
 

@@ -1,10 +1,7 @@
 -- The loop goes up, sixteen cells at a time: none before i is k.
-use Prim.Native.Nat.{◌≤◌, ◌-◌}
-use mathlib.Core.Path.{◌≡◌, refl, ◌∙◌}
+use mathlib.Core.Path.{refl, ◌∙◌}
 use native.Mathlib.Omega.{arith}
-use lib.ListN.{length, drop}
 use borrow.Author.Rules.{rules}
-use Rattle.cols_spec.specs.Places.{first}
 use Rattle.cols_walk.proofs.past_cells.Goals as goal
 
 pub loop-i-init : goal.loop-i-init

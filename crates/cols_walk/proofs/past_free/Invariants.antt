@@ -1,12 +1,8 @@
 -- The loop goes up, eight places at a time: none before i is in use.
 use Prim.Native.Nat.{◌≤◌, ◌-◌}
-use mathlib.Core.Path.{◌≡◌, refl, ◌∙◌}
-use native.Mathlib.Omega.{arith}
+use mathlib.Core.Path.{◌≡◌}
 use lib.ListN.{length, drop}
-use borrow.Author.Rules.{rules}
-use borrow.Author.Tests.{not-false}
 use Rattle.cols_spec.specs.Places.{busy}
-use Rattle.cols_spec.proofs.Busy.{busy_past}
 use Rattle.cols_walk.proofs.past_free.Given as goal
 
 abbrev pub invariant-loop-i : goal.invariant-loop-i

@@ -1,5 +1,4 @@
 -- Both fours are in a row.
-use borrow.Author.Rules.{rules}
 use Rattle.cols_walk.proofs.Widths.{rows}
 use Rattle.cols_walk.proofs.row_of_eight.Goals as goal
 

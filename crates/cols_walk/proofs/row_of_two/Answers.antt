@@ -1,5 +1,4 @@
 -- Both places hold what they have to.
-use borrow.Author.Rules.{rules}
 use borrow.Author.Tests.{eqb-true}
 use Rattle.cols_spec.proofs.Bools.{and_parts}
 use Rattle.cols_spec.proofs.Busy.{row_two}

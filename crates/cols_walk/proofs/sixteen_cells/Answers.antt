@@ -1,5 +1,4 @@
 -- Both eights are passed.
-use borrow.Author.Rules.{rules}
 use Rattle.cols_walk.proofs.Widths.{passed}
 use Rattle.cols_walk.proofs.sixteen_cells.Goals as goal
 

@@ -1,7 +1,6 @@
 -- The gap in the first mask, or in the second.
 use Prim.Native.Nat.{◌+◌}
 use Rattle.cols_spec.proofs.Gaps.{gap_more, gap_marked, gap_next}
-use borrow.Author.Rules.{rules}
 use Rattle.cols_walk.proofs.taken.Goals as goal
 
 pub returns-then-a-lt64 : goal.returns-then-a-lt64

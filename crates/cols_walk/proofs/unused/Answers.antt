@@ -5,7 +5,6 @@ use native.Mathlib.Omega.{arith}
 use lib.ListN.{length, take, drop, length-drop}
 use lib.Seq.{take_all}
 use Rattle.cols_spec.proofs.Gaps.{gap_found, gap_cut, unused_gap}
-use borrow.Author.Rules.{rules}
 use Rattle.cols_walk.proofs.unused.Goals as goal
 
 pub returns : goal.returns

@@ -1,11 +1,10 @@
 -- The loop goes up: no place before i is in use.
-use Prim.Native.Nat.{◌≤◌, ◌-◌}
 use mathlib.Core.Path.{◌≡◌, sym, ap, ◌∙◌}
 use native.Mathlib.Omega.{arith}
 use native.Mathlib.Numerals.{add-one}
-use lib.ListN.{length, drop}
+use lib.ListN.{length}
 use borrow.Author.Rules.{rules}
-use Rattle.cols_spec.specs.Places.{busy, number}
+use Rattle.cols_spec.specs.Places.{number}
 use Rattle.cols_spec.proofs.Busy.{busy_hit, busy_miss, busy_none}
 use Rattle.cols_walk.proofs.used_from.Goals as goal
 
