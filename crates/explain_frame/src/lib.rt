@@ -1,4 +1,6 @@
 // A trace in words, frame by frame: what came, the reply, what was sent, and which tokens changed.
+#![tactic(auto)]
+
 ghost use Rattle.std.specs.Prelude.{◌≡◌, [], ◌∷◌, ◌≤◌, length, take};
 ghost use Rattle.trace_frames.specs.Frames.{front, size_of};
 ghost use Rattle.domain.specs.Lent.{tokens_before, tokens_now};

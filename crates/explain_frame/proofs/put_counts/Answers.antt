@@ -1,0 +1,9 @@
+-- `explain_frame::put_counts` meets its contract. Assumes nothing.
+use Rattle.explain_frame.specs.Frames.{counts_texts}
+use Rattle.explain_words.specs.Letters.{ascii}
+use Rattle.trace_io.proofs.Saying.{says_then}
+use Rattle.explain_frame.proofs.put_counts.Goals as goal
+
+pub returns : goal.returns
+unfolding ascii counts_texts
+returns c = says_then c.put_count-a.ensures (says_then c.put_count-b.ensures c.put_count.ensures)

@@ -1,0 +1,12 @@
+-- `explain_frame::put_frame` meets its contract: the texts stand one behind the other. Assumes nothing.
+use Rattle.explain_frame.proofs.FrameLaws.{tells_as, tells_then, tells_more}
+use Rattle.explain_frame.specs.Frames.{frame_texts}
+use Rattle.explain_words.specs.Letters.{ascii}
+use mathlib.Core.Path.{refl}
+use Rattle.explain_frame.proofs.put_frame.Goals as goal
+
+pub returns : goal.returns
+unfolding ascii frame_texts
+returns c =
+    let told = tells_more (tells_more (tells_more (tells_then c.put_count-a.ensures c.put_front-b.ensures) c.put_reply-c.ensures) c.put_sent-d.ensures) c.put_changes.ensures.0 in
+    (tells_as told (λ _. refl), c.put_changes.ensures.1, c.put_changes.ensures.2, c.put_changes.ensures.3)

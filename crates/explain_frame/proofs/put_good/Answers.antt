@@ -1,0 +1,10 @@
+-- `explain_frame::put_good` meets its contract. Assumes nothing.
+use Rattle.explain_frame.proofs.FrameLaws.{tells_as, tells_then}
+use Rattle.explain_frame.specs.Frames.{good_texts}
+use Rattle.explain_words.specs.Letters.{ascii}
+use mathlib.Core.Path.{refl}
+use Rattle.explain_frame.proofs.put_good.Goals as goal
+
+pub returns : goal.returns
+unfolding ascii good_texts
+returns c = tells_as (tells_then c.put_event-a.ensures (tells_then c.say-b.ensures c.put_unread.ensures)) (λ _. refl)

@@ -1,0 +1,9 @@
+-- `explain_frame::put_reply` meets its contract. Assumes nothing.
+use Rattle.explain_frame.specs.Frames.{reply_texts}
+use Rattle.explain_words.specs.Letters.{ascii}
+use Rattle.trace_io.proofs.Saying.{says_then}
+use Rattle.explain_frame.proofs.put_reply.Goals as goal
+
+pub returns : goal.returns
+unfolding ascii reply_texts
+returns c = says_then c.put_count-a.ensures (says_then c.say-b.ensures (says_then c.say_named-c.ensures (says_then c.put_count-d.ensures (says_then c.put_counts-e.ensures c.say.ensures))))
