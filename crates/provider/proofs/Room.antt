@@ -1,15 +1,15 @@
 -- A room of 17,200 octets never meets 9. Assumes nothing.
 use Rattle.std.specs.Prelude.{if◌then◌else◌}
-use mathlib.Core.Path.{◌≡◌, refl, sym, ap, ◌∙◌}
+use mathlib.Core.Path.{◌≡◌, refl, ap}
 use mathlib.Core.Bool.{Bool, true, false, not, ◌||◌}
 use mathlib.Core.List.{List, [], ◌∷◌}
 use mathlib.Core.Option.{Option, none, some}
-use Prim.Native.Nat.{ℕ, zero, suc, ◌+◌, ◌*◌, ◌≤◌, ◌<◌}
+use Prim.Native.Nat.{ℕ, zero, suc, ◌≤◌, ◌<◌}
 use native.Mathlib.Omega.{arith}
 use borrow.Author.Tests.{le-ltb}
 use lib.Dec.{eqb, ltb}
-use lib.ListN.{length, take, length-take}
-use Rattle.cols_spec.specs.Sets.{keep, any, null, each, upto, below, member, firsts, once, has, with, connections, seats}
+use lib.ListN.{length, take}
+use Rattle.cols_spec.specs.Sets.{keep, any, null, upto, below, member, firsts, once, has, with, connections, seats}
 use Rattle.cols_spec.specs.Places.{Place, At, Nowhere, find, found, in_order}
 use Rattle.cols_spec.proofs.Order.{keep_le, in_order_length}
 use Rattle.codec_octets.specs.Octets.{Bytes}
@@ -29,7 +29,7 @@ use Rattle.domain.specs.declared.token.Holding.{Holding}
 use Rattle.domain.specs.declared.token.Holding.TheVariants.{Free, Grabbed, Inhibited, Giving, Given}
 use Rattle.domain.specs.Cells.{kind}
 use Rattle.domain.specs.Tables.{Users, Channels, Tokens, Domain, attached, channel, hosts, state, put_links, put_channels, put_tokens, put_both, grant}
-use Rattle.domain.specs.Tokens.{Turned, fails, turns, grab, inhibit, release, grabbed_by, offered_to, responded, party}
+use Rattle.domain.specs.Tokens.{Turned, fails, turns, grab, inhibit, release, grabbed_by, offered_to, party}
 use Rattle.domain.specs.Effects.{Effect, ignored, done, from, within}
 use Rattle.domain.specs.Channels.{attach, may, join_at, join_new, join, joined, leave_channels, convene, owned, manages, disband, own, attached_of, admitted_of, admit, expel}
 use Rattle.domain.specs.Passing.{turn, take_token, share_token, drop_token, offer, informed, answer, please, test}

@@ -1,5 +1,6 @@
 // The provider: every event on every connection, with any octets and any room for answers. The tables are lent as columns of numbers; any
 // contents are taken.
+#![tactic(auto)]
 
 ghost use Rattle.std.specs.Prelude.{◌≡◌, true, false, not, ◌||◌, ltb, if◌then◌else◌};
 ghost use Rattle.cols_spec.specs.Sets.{has as has_in};
