@@ -19,8 +19,8 @@ use Rattle.domain.specs.Claims.{Run as EventRun, run as event_run, now, past as 
 use Rattle.domain.proofs.hearers.Asked.{hearer_asked}
 use Rattle.domain.proofs.hearers.Claimed.{heard}
 use Rattle.domain_begun.proofs.Heard.{tables_heard as event_tables}
-use Rattle.domain.specs.Outcomes.{limited, begun}
-use Rattle.history.specs.Served.{Turn, All_bytewise, Run, run, serves, started}
+use Rattle.domain.specs.Outcomes.{limited}
+use Rattle.history.specs.Served.{Run, run, serves, started}
 use Rattle.history.specs.Claims.{past}
 use Rattle.history.specs.Hearers.{Heard, WhoHeard, WhoHeardFromTables, WhoHeardFromImage, Data_heard, DataHeard, DataHeardFromTables, DataHeardFromImage}
 use Rattle.history.proofs.Alike.{Like, Alike, home_alike}

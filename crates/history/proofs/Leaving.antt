@@ -1,6 +1,5 @@
 -- T-08 over octets: users of one connection leave equal tables, whether they leave in one message or in two. Assumes nothing.
 use mathlib.Core.Path.{◌≡◌, refl, sym, ap, ◌∙◌}
-use mathlib.Core.List.{List, [], ◌∷◌}
 use Prim.Native.Nat.{ℕ, ◌≤◌}
 use lib.ListN.{length}
 use Rattle.codec_table.specs.Messages.{entry, is_served}
@@ -9,13 +8,13 @@ use Rattle.domain.specs.Tables.{Domain}
 use Rattle.domain.specs.Events.{Reading, Outcome, hears, step}
 use Rattle.domain.specs.Good.{Good}
 use Rattle.domain.specs.Outcomes.{step_settled, after}
-use Rattle.domain_laws.specs.LeavingInTwo.{Report, reported, Has_room as Report_has_room, Names_both}
+use Rattle.domain_laws.specs.LeavingInTwo.{Report, reported}
 use Rattle.domain.proofs.invariant.Invariant.{good_next}
 use Rattle.domain_laws.proofs.intwo.Reports.{in_two}
 use Rattle.serve_read.proofs.Understanding.{heard_understood}
 use Rattle.provider.proofs.Room.{never_9}
 use Rattle.history.specs.Served.{event, Run, tables, served, serves}
-use Rattle.history.specs.Leaving.{Detaching, on, Has_room, Equal_tables, Equal_left, Where_room, Where_ample, In_two, InTwoFromStart, InTwoFromImage}
+use Rattle.history.specs.Leaving.{Detaching, on, Equal_tables, Equal_left, Where_room, Where_ample, In_two, InTwoFromStart, InTwoFromImage}
 use Rattle.history.proofs.AsHeard.{event_formed}
 use Rattle.history.proofs.Answering.{arrives, good_sized}
 use Rattle.history.proofs.Called.{calls_run}

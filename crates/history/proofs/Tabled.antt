@@ -7,7 +7,7 @@ use Prim.Native.Nat.{ℕ, ◌≤◌}
 use native.Mathlib.Omega.{arith}
 use lib.Dec.{eqb}
 use lib.ListN.{length}
-use Rattle.cols_spec.specs.Sets.{keep, null, each, below, once, connections}
+use Rattle.cols_spec.specs.Sets.{keep, null, below, once, connections}
 use Rattle.cols_spec.specs.Places.{Place, At, Nowhere, find, found}
 use Rattle.cols_spec.proofs.Order.{keep_le}
 use Rattle.cols_spec.proofs.Rows.{find_holds}
