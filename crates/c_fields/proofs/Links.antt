@@ -6,7 +6,7 @@ use Prim.Native.Nat.{ℕ, ◌<◌}
 use borrow.Author.Tests.{lt-ltb}
 use Rattle.domain.specs.Tables.{Domain}
 use Rattle.domain.specs.Effects.{Settled}
-use Rattle.domain.specs.Events.{Event, Reading, opens, loses, hears, stays, step, step_with}
+use Rattle.domain.specs.Events.{Reading, opens, loses, hears, stays, step, step_with}
 use Rattle.domain.specs.Outcomes.{after, step_settled}
 
 -- one connection stands for the other
