@@ -1,1 +1,3 @@
+#![tactic(auto)]
+
 // Judging: another maker's bridge by its trace. Definitions and theorems only.
