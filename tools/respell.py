@@ -1,5 +1,5 @@
 #!/usr/bin/env python3
-"""respell.py [--list]: spells the repository's own definitions and lemmas in one way, once, behind the kit's port.py: words in snake case, types in camel case,
+"""respell.py [--list|--missed]: spells the repository's own definitions and lemmas in one way, once, behind the kit's port.py: words in snake case, types in camel case,
 a prime as an apostrophe. --list prints the names and writes nothing. Functions of src/, exported names, strings, inputs and outputs keep their names; in a
 comment a name changes only between back quotes. Names that would fall together in one file are told apart by CHOSEN, or by `_lem` where one is a lemma."""
 import collections
@@ -37,6 +37,14 @@ CHOSEN = {
 }
 # The same in one crate: there the name is a definition's.
 CHOSEN_IN = {"serve_leave_records": {"kind-at": "kind_at"}, "codec_read": {"tail_of": "tail_of_lem"}}
+
+# Names that the first run did not see: declared several to a line, behind parameters, or in a lemma file that is called Answers. `respell.py --missed` spells
+# these alone.
+MISSED = """by-grab by-inhibit by-offer channel-ids channel-kinds data-on fresh-id is-kind let-in no-grant none-c none-else of-place on-end on-leaving open-m open-n
+open-p token-ids token-states token-values user-id user-ids user-links find-inside find-nowhere first-inside found-somewhere skips-most some-kept spare-at
+spare-inside spare-nowhere stands-found""".split()
+MISSED = {**{it: it.replace("-", "_") for it in MISSED}, "Private-at": "PrivateAt", "Settled-alike": "SettledAlike", "Wished-step": "WishedStep"}
+# Types that the first run left in small letters, or with an underscore, were spelled by hand: `same_step` is `SameStep`, `All_right` is `AllRight`.
 
 
 def files(*endings):
@@ -168,6 +176,13 @@ def respelled(text, new, path):
 
 
 def main():
+    if sys.argv[1:] == ["--missed"]:
+        for path in files(".antt", ".rt"):
+            text = open(path, encoding="utf-8").read()
+            done = respelled(text, MISSED, path)
+            if done != text:
+                open(path, "w", encoding="utf-8").write(done)
+        return
     new, where, clashes = names()
     if sys.argv[1:] == ["--list"]:
         for a, b in sorted(new.items()):

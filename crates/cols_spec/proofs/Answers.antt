@@ -12,15 +12,15 @@ use Rattle.cols_spec.proofs.Rows.{first_holds, find_holds, find_none}
 abbrev pub Inside : ℕ → Place → Type 0
 Inside n p = (i : ℕ) → p ≡ At i → i < n
 
-pub first-inside : (ids : List ℕ) (x : ℕ) → Inside (length ids) (first 0 x ids)
-first-inside ids x i e = (first_holds ids x i e).1
+pub first_inside : (ids : List ℕ) (x : ℕ) → Inside (length ids) (first 0 x ids)
+first_inside ids x i e = (first_holds ids x i e).1
 
-pub find-inside : (ids : List ℕ) (x : ℕ) → Inside (length ids) (find ids x)
-find-inside ids x i e = (find_holds ids x i e).1
+pub find_inside : (ids : List ℕ) (x : ℕ) → Inside (length ids) (find ids x)
+find_inside ids x i e = (find_holds ids x i e).1
 
-pub spare-inside : (ids : List ℕ) → Inside (length ids) (spare ids)
+pub spare_inside : (ids : List ℕ) → Inside (length ids) (spare ids)
 unfolding spare
-spare-inside ids = first-inside ids 0
+spare_inside ids = first_inside ids 0
 
 -- an answer is at most n; below n it is the place; n is nowhere
 module _ (n : ℕ) (p : Place) (r : ℕ) (is : r ≡ number n p) where
@@ -46,23 +46,23 @@ module _ (ids : List ℕ) (x r : ℕ) (is : r ≡ number (length ids) (find ids 
   pub find_at : r < length ids → find ids x ≡ At r
   find_at = number_at (length ids) (find ids x) r is
 
-  pub find-nowhere : length ids ≤ r → find ids x ≡ Nowhere
-  find-nowhere = number_none (length ids) (find ids x) r is (find-inside ids x)
+  pub find_nowhere : length ids ≤ r → find ids x ≡ Nowhere
+  find_nowhere = number_none (length ids) (find ids x) r is (find_inside ids x)
 
 -- an id that stands at a place is found, though it may be elsewhere
-pub stands-found : (ids : List ℕ) (x i : ℕ) → 0 < x → get_or ids i 0 ≡ x → found (find ids x) ≡ true
+pub stands_found : (ids : List ℕ) (x i : ℕ) → 0 < x → get_or ids i 0 ≡ x → found (find ids x) ≡ true
 unfolding found
-stands-found ids x i z e = go (find ids x) refl
+stands_found ids x i z e = go (find ids x) refl
   where
     go : (p : Place) → find ids x ≡ p → found p ≡ true
     go (At j) q = refl
     go Nowhere q = absurd (find_none ids x q z i e)
 
 -- where it is found, and that it is not
-pub found-somewhere : (p : Place) → found p ≡ true → (i : ℕ) × (p ≡ At i)
+pub found_somewhere : (p : Place) → found p ≡ true → (i : ℕ) × (p ≡ At i)
 unfolding found
-found-somewhere (At i) e = (i, refl)
-found-somewhere Nowhere e = absurd (true≢false (sym e))
+found_somewhere (At i) e = (i, refl)
+found_somewhere Nowhere e = absurd (true≢false (sym e))
 
 pub found_nowhere : (p : Place) → found p ≡ false → p ≡ Nowhere
 unfolding found
@@ -70,8 +70,8 @@ found_nowhere (At i) e = absurd (true≢false e)
 found_nowhere Nowhere e = refl
 
 module _ (ids : List ℕ) (r : ℕ) (is : r ≡ number (length ids) (spare ids)) where
-  pub spare-at : r < length ids → spare ids ≡ At r
-  spare-at = number_at (length ids) (spare ids) r is
+  pub spare_at : r < length ids → spare ids ≡ At r
+  spare_at = number_at (length ids) (spare ids) r is
 
-  pub spare-nowhere : length ids ≤ r → spare ids ≡ Nowhere
-  spare-nowhere = number_none (length ids) (spare ids) r is (spare-inside ids)
+  pub spare_nowhere : length ids ≤ r → spare ids ≡ Nowhere
+  spare_nowhere = number_none (length ids) (spare ids) r is (spare_inside ids)

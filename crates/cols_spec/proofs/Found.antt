@@ -15,8 +15,8 @@ use Rattle.cols_spec.proofs.Rows.{At≢Nowhere, same_place, find_holds, find_non
 use Rattle.cols_spec.proofs.Table.{Table, new_place, add_keeps, table_add, table_clear, swept_same, sweep_used, table_sweep}
 
 module _ {A : Type 0} {n lim : ℕ} {blank : A} {P : ℕ → ℕ → A → Type 0} {ids : List ℕ} {cells : List A} (t : Table n lim blank P ids cells) where
-  abbrev No_rule : ℕ → ℕ → A → Type 0
-  No_rule i x c = Unit {0}
+  abbrev NoRule : ℕ → ℕ → A → Type 0
+  NoRule i x c = Unit {0}
 
   -- one comes
   module _ (few : used ids < lim) (fits : lim ≤ n) (k : ℕ) (c : A) (kz : 0 < k) (away : (i : ℕ) → get_or ids i 0 ≡ k → ⊥) where
@@ -27,17 +27,17 @@ module _ {A : Type 0} {n lim : ℕ} {blank : A} {P : ℕ → ℕ → A → Type 
         new : List ℕ
         new = store ids (spare ids) k
 
-        after : Table n lim blank No_rule new (store cells (spare ids) c)
-        after = table_add t No_rule few fits k c kz away (λ j. tt) (λ i h r. tt)
+        after : Table n lim blank NoRule new (store cells (spare ids) c)
+        after = table_add t NoRule few fits k c kz away (λ j. tt) (λ i h r. tt)
 
         j : ℕ
-        j = (new_place t No_rule few fits k c kz).0
+        j = (new_place t NoRule few fits k c kz).0
 
         spot : spare ids ≡ At j
-        spot = (new_place t No_rule few fits k c kz).1
+        spot = (new_place t NoRule few fits k c kz).1
 
         at : (i : ℕ) → get_or new i 0 ≡ (if eqb i j then k else get_or ids i 0)
-        at i = rw spot (at_set ids j i k 0 (new_place t No_rule few fits k c kz).3)
+        at i = rw spot (at_set ids j i k 0 (new_place t NoRule few fits k c kz).3)
 
         other : (i : ℕ) → 0 < x → find ids x ≡ Nowhere → eqb x k ≡ false → (b : Bool) → (if b then k else get_or ids i 0) ≡ x → ⊥
         other i xz e q true g = eqb-false x k q (sym g)
@@ -47,7 +47,7 @@ module _ {A : Type 0} {n lim : ℕ} {blank : A} {P : ℕ → ℕ → A → Type 
         go true q w e = find_is new after.apart x j (rw (eqb-true x k q) kz) (at j ∙ rw (eq-eqb j j refl) (sym (eqb-true x k q))) ∙ sym spot
         go false q (At i) e =
             let r = find_holds ids x i e in
-            find_is new after.apart x i r.2 ((add_keeps t No_rule few fits k c kz i (rw r.0 r.2)).0 ∙ r.0) ∙ sym e
+            find_is new after.apart x i r.2 ((add_keeps t NoRule few fits k c kz i (rw r.0 r.2)).0 ∙ r.0) ∙ sym e
         go false q Nowhere e = find_gone new x (λ xz i g. other i xz e q (eqb i j) (sym (at i) ∙ g)) ∙ sym e
 
     pub load_added : (x : ℕ) → load (store cells (spare ids) c) (find (store ids (spare ids) k) x) blank ≡ (if eqb x k then c else load cells (find ids x) blank)
@@ -55,11 +55,11 @@ module _ {A : Type 0} {n lim : ℕ} {blank : A} {P : ℕ → ℕ → A → Type 
     load_added x = rw (find_added x) (go (eqb x k) (find ids x) refl)
       where
         r : (j : ℕ) × (spare ids ≡ At j) × (get_or ids j 0 ≡ 0) × (j < length ids) × (j < length cells)
-        r = new_place t No_rule few fits k c kz
+        r = new_place t NoRule few fits k c kz
 
         go : (b : Bool) (w : Place) → find ids x ≡ w → load (store cells (spare ids) c) (if b then spare ids else find ids x) blank ≡ (if b then c else load cells (find ids x) blank)
         go true w e = rw r.1 (at_set cells r.0 r.0 c blank r.4 ∙ rw (eq-eqb r.0 r.0 refl))
-        go false (At i) e = let f = find_holds ids x i e in rw e (add_keeps t No_rule few fits k c kz i (rw f.0 f.2)).1
+        go false (At i) e = let f = find_holds ids x i e in rw e (add_keeps t NoRule few fits k c kz i (rw f.0 f.2)).1
         go false Nowhere e = rw e
 
   -- one changes, or goes
@@ -94,7 +94,7 @@ module _ {A : Type 0} {n lim : ℕ} {blank : A} {P : ℕ → ℕ → A → Type 
         go false q (At j) e =
             let r = find_holds ids x j e in
             let ne : eqb j i ≡ false = eqb_sym j i ∙ same_place ids k x i j here e ∙ q in
-            find_is (set ids i 0) (table_clear t No_rule i used_here (λ m n h p. tt)).apart x j r.2 (at j ∙ rw ne r.0) ∙ sym e
+            find_is (set ids i 0) (table_clear t NoRule i used_here (λ m n h p. tt)).apart x j r.2 (at j ∙ rw ne r.0) ∙ sym e
         go false q Nowhere e = find_gone (set ids i 0) x (λ xz m g. gone xz (λ n ne s. find_none ids x e xz n s) m (eqb m i) refl (sym (at m) ∙ g)) ∙ sym e
 
     pub load_cleared : (x : ℕ) → load (set cells i blank) (find (set ids i 0) x) blank ≡ (if eqb x k then blank else load cells (find ids x) blank)
@@ -111,22 +111,22 @@ module _ {A : Type 0} {n lim : ℕ} {blank : A} {P : ℕ → ℕ → A → Type 
     swept = map (λ r. r.0) (sweep blank fate 0 ids cells)
 
     pub find_still : find ids x ≡ Nowhere → find swept x ≡ Nowhere
-    find_still e = find_gone swept x (λ xz j g. find_none ids x e xz j (sym (swept_same t No_rule fate j (rw g xz)) ∙ g))
+    find_still e = find_gone swept x (λ xz j g. find_none ids x e xz j (sym (swept_same t NoRule fate j (rw g xz)) ∙ g))
 
     module _ (i : ℕ) (e : find ids x ≡ At i) where
       pub find_kept : (c : A) → fate i (get_or ids i 0) (get_or cells i blank) ≡ some c → find swept x ≡ At i
       unfolding turns_to
       find_kept c f =
           let r = find_holds ids x i e in
-          find_is swept (table_sweep t No_rule fate (λ j h p y q. tt)).apart x i r.2 ((sweep_used t No_rule fate i (rw r.0 r.2) (some c) f).0 ∙ r.0)
+          find_is swept (table_sweep t NoRule fate (λ j h p y q. tt)).apart x i r.2 ((sweep_used t NoRule fate i (rw r.0 r.2) (some c) f).0 ∙ r.0)
 
       pub find_freed : fate i (get_or ids i 0) (get_or cells i blank) ≡ none → find swept x ≡ Nowhere
       unfolding turns_to
       find_freed f = find_gone swept x (λ xz j g.
           let r = find_holds ids x i e in
           let here : 0 < get_or ids i 0 = rw r.0 r.2 in
-          let same : i ≡ j = t.apart i j here (r.0 ∙ sym g ∙ swept_same t No_rule fate j (rw g xz)) in
-          let z : get_or swept i 0 ≡ 0 = (sweep_used t No_rule fate i here none f).0 in
+          let same : i ≡ j = t.apart i j here (r.0 ∙ sym g ∙ swept_same t NoRule fate j (rw g xz)) in
+          let z : get_or swept i 0 ≡ 0 = (sweep_used t NoRule fate i here none f).0 in
           omega (arith, xz, g, z, ap (λ (m : ℕ). get_or swept m 0) same))
 
       pub load_swept : load (map (λ r. r.1) (sweep blank fate 0 ids cells)) (find swept x) blank ≡ (turns_to blank (get_or ids i 0) (fate i (get_or ids i 0) (get_or cells i blank))).1
@@ -139,4 +139,4 @@ module _ {A : Type 0} {n lim : ℕ} {blank : A} {P : ℕ → ℕ → A → Type 
           go : (o : Option A) → fate i (get_or ids i 0) (get_or cells i blank) ≡ o
               → load (map (λ r. r.1) (sweep blank fate 0 ids cells)) (find swept x) blank ≡ (turns_to blank (get_or ids i 0) o).1
           go none f = rw (find_freed f)
-          go (some c) f = rw (find_kept c f) (sweep_used t No_rule fate i (rw r.0 r.2) (some c) f).1
+          go (some c) f = rw (find_kept c f) (sweep_used t NoRule fate i (rw r.0 r.2) (some c) f).1

@@ -18,7 +18,7 @@ use Rattle.cols_spec.proofs.Digits.{has_zero, has_suc, has_or, has_those, has_on
 use Rattle.cols_spec.proofs.Marks.{has_none}
 use Rattle.cols_spec.proofs.Rows.{in_list, find_gone}
 use Rattle.cols_spec.proofs.Members.{member_at, member_where, member_none, member_append}
-use Rattle.cols_spec.proofs.Answers.{stands-found, found-somewhere, found_nowhere}
+use Rattle.cols_spec.proofs.Answers.{stands_found, found_somewhere, found_nowhere}
 use Rattle.cols_spec.proofs.Turns.{unused_here, unused_later}
 
 -- ---- the mask of a list: of one behind another, of places that are free, of one id
@@ -176,7 +176,7 @@ unused_gap zero ids x g p = omega (arith, p.within)
 unused_gap (suc n) ids x zero p =
     add-zero x ∙ sym (unused_here n ids x (found_nowhere (find ids x) (rw (add-zero x) at (p.here (omega arith)))))
 unused_gap (suc n) ids x (suc g) p =
-    let there = found-somewhere (find ids x) (rw (add-zero x) at (p.before 0 (omega arith))) in
+    let there = found_somewhere (find ids x) (rw (add-zero x) at (p.before 0 (omega arith))) in
     let q : Gap (λ k. found (find ids (suc x + k))) n g = record {
       within = le_of_suc-le-suc p.within;
       before = λ k l. rw (suc-add x k, ← (add-suc x k)) (p.before (suc k) (suc-le-suc l));
@@ -187,7 +187,7 @@ unused_gap (suc n) ids x (suc g) p =
 -- Behind h places that hold the ids from low + 1 on, an id above those is there where one of the places left holds it.
 module _ (ids : List ℕ) (low h : ℕ) (row : InRow ids 0 h (low + 1) 1) where
   row_found : (k : ℕ) → k < h → found (find ids (low + 1 + k)) ≡ true
-  row_found k l = stands-found ids (low + 1 + k) k (omega arith) (omega (arith, rw (zero-add k) at (row k l)))
+  row_found k l = stands_found ids (low + 1 + k) k (omega arith) (omega (arith, rw (zero-add k) at (row k l)))
 
   rest_found : (k : ℕ) → member (low + h + 1 + k) (drop h ids) ≡ found (find ids (low + 1 + (h + k)))
   unfolding found
@@ -204,7 +204,7 @@ module _ (ids : List ℕ) (low h : ℕ) (row : InRow ids 0 h (low + 1) 1) where
       go : (b : Bool) → member (low + h + 1 + k) (drop h ids) ≡ b → member (low + h + 1 + k) (drop h ids) ≡ found (find ids (low + 1 + (h + k)))
       go true m =
           let r = member_where (drop h ids) (low + h + 1 + k) m in
-          m ∙ sym (stands-found ids (low + 1 + (h + k)) (h + r.0) (omega arith) (omega (arith, r.1, get_or-drop h ids r.0 0)))
+          m ∙ sym (stands_found ids (low + 1 + (h + k)) (h + r.0) (omega arith) (omega (arith, r.1, get_or-drop h ids r.0 0)))
       go false m = m ∙ sym (ap found (find_gone ids (low + 1 + (h + k)) (λ z i g. away m i g (ltb i h) refl)))
 
   pub gap_found : {n r : ℕ} → Gap (λ k. member (low + h + 1 + k) (drop h ids)) n r → Gap (λ k. found (find ids (low + 1 + k))) (h + n) (h + r)

@@ -11,7 +11,7 @@ use lib.ListN.{length, get_or}
 use Rattle.cols_spec.specs.Sets.{any, each, member}
 use Rattle.cols_spec.specs.Places.{At, find, next, rising, in_order, picked}
 use Rattle.cols_spec.proofs.Rows.{in_list, find_holds}
-use Rattle.cols_spec.proofs.Answers.{stands-found, found-somewhere}
+use Rattle.cols_spec.proofs.Answers.{stands_found, found_somewhere}
 use Rattle.cols_spec.proofs.Members.{member_at, member_where}
 use Rattle.cols_spec.proofs.Order.{keep_le, above, above_less, next_of, next_above, next_there}
 use Rattle.cols_spec.proofs.Turns.{rising_turn, rising_end}
@@ -123,7 +123,7 @@ module _ {B : Type 0} (f : ℕ → List B) (test : ℕ → Bool) (ids : List ℕ
       go (j, e) = by j (test j) (sym (picked_at test ids j) ∙ e)
 
   place_of : (x : ℕ) → 0 < x → member x ids ≡ true → (j : ℕ) × (find ids x ≡ At j)
-  place_of x h m = let r = member_where ids x m in found-somewhere (find ids x) (stands-found ids x r.0 h r.1)
+  place_of x h m = let r = member_where ids x m in found_somewhere (find ids x) (stands_found ids x r.0 h r.1)
 
   is_silent : (x : ℕ) → 0 < x → member x ids ≡ true → member x those_picked ≡ false → f x ≡ []
   is_silent x h m n = go (place_of x h m).0 (place_of x h m).1 (test (place_of x h m).0) refl

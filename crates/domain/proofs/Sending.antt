@@ -73,14 +73,14 @@ module _ (test : Sent → Bool) where
       all_either test (eqb n 5) _ _ (one_all test _ (law p 4 (take 16 octets))) (all_either test (eqb n 6) _ _ (one_all test _ (law p 2 (take 16 octets))) (none_all test))
 
   -- DUin, CDin and TVcf of those who leave
-  module _ (on-leaving : (p n : ℕ) (ids : List ℕ) → test (to p (DUin n ids)) ≡ true) (on-end : (p c : ℕ) → test (to p (CDin c)) ≡ true)
+  module _ (on_leaving : (p n : ℕ) (ids : List ℕ) → test (to p (DUin n ids)) ≡ true) (on_end : (p c : ℕ) → test (to p (CDin c)) ≡ true)
       (on_Return : (p u k s : ℕ) → test (to p (TVcf no_such_user u k s)) ≡ true) where
     -- a channel that ends with its manager
     ended_all : (us : Users) (gone live c : ℕ) (k : Kind) → all test (ended us gone live c k) ≡ true
     unfolding ended
     ended_all us gone live c Static = none_all test
     ended_all us gone live c User = none_all test
-    ended_all us gone live c (Private g adm) = all_either test (has gone g) _ _ (tell_all (meet connections (hosts us (with seats adm g)) live) (CDin c) (λ p. on-end p c)) (none_all test)
+    ended_all us gone live c (Private g adm) = all_either test (has gone g) _ _ (tell_all (meet connections (hosts us (with seats adm g)) live) (CDin c) (λ p. on_end p c)) (none_all test)
     ended_all us gone live c Assigned = none_all test
 
     -- a token that goes back to its giver
@@ -97,6 +97,6 @@ module _ (test : Sent → Bool) where
     unfolding farewell
     farewell_all d gone live reason ids =
         all_append test _ _
-        (all_append test _ _ (all_either test (null ids) _ _ (none_all test) (tell_all live (DUin reason ids) (λ p. on-leaving p reason ids)))
+        (all_append test _ _ (all_either test (null ids) _ _ (none_all test) (tell_all live (DUin reason ids) (λ p. on_leaving p reason ids)))
         (all_each test _ (λ c. ended_all d.users gone live c _) (in_order d.channels.ids)))
         (all_each test _ (λ k. returned_all d.users gone k _) (in_order d.tokens.ids))

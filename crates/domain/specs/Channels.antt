@@ -105,9 +105,9 @@ admitted_of us adm ids = keep (λ v. elim (find us.ids v) [ At i ↦ has adm i |
 -- CArq admits the listed ids that are attached, one already admitted or the manager's too; none, ignored. CAin
 unfoldable pub admit : (us : Users) (cs : Channels) (p u c : ℕ) (ids : List ℕ) → Effect Channels
 admit us cs p u c ids = manages us cs p u c λ j m adm.
-    let let-in = attached_of us ids in
-    if null let-in then ignored
-    else done (set_channel cs j (with_guests (channel cs j) (union seats adm (places us let-in)) (channel cs j).marks)) (own us let-in (CAin u c))
+    let let_in = attached_of us ids in
+    if null let_in then ignored
+    else done (set_channel cs j (with_guests (channel cs j) (union seats adm (places us let_in)) (channel cs j).marks)) (own us let_in (CAin u c))
 
 -- a connection is joined to a private channel only while its manager m or an admitted user is attached there; otherwise the mark goes
 unfoldable pub private_marks : (us : Users) (ch : Channel) (m adm joined : ℕ) → Channel

@@ -8,7 +8,7 @@ use Rattle.codec_table.specs.Named.{Message, TGrq, TIrq, formed as formed_messag
 use Rattle.domain.specs.declared.Limits.{Limits}
 use Rattle.domain.specs.declared.token.Holding.{Holding}
 use Rattle.domain.specs.declared.token.Holding.TheVariants.{Free, Grabbed, Inhibited, Giving, Given}
-use Rattle.domain.specs.Tables.{Domain, fresh, state, between, in_range, Free_id}
+use Rattle.domain.specs.Tables.{Domain, fresh, state, between, in_range, FreeId}
 use Rattle.domain.specs.Events.{Event, opens, loses, hears, reads, refuses, step, step_with}
 use Rattle.domain.specs.Good.{Good}
 use Rattle.domain.specs.History.{History, nothing_yet, begins, ◌▹◌, full, told, home, gain, held, alone, busy, count}
@@ -75,7 +75,7 @@ GoodFresh = (l : Limits) → So (in_range l) → Good (fresh l)
 -- every event keeps them, also for another maker's choice of a new id (T-10)
 abbrev pub GoodStep : Type 0
 GoodStep =
-    (d : Domain) (new : ℕ) (e : Event) (room : ℕ) → Good d → So (formed e) → Free_id d new
+    (d : Domain) (new : ℕ) (e : Event) (room : ℕ) → Good d → So (formed e) → FreeId d new
     → Good (step_with new d e room).domain
 
 -- of a run; `tokens` is the limit of tokens that it was started with
@@ -89,8 +89,8 @@ module _ (r : Run) where
   OnlyHolder = (k u v : ℕ) → So (alone (gain (past r) k u)) → So (held (gain (past r) k v)) → v ≡ u
 
   -- (iii) the number of tokens with a holder or an open offer is the table's count, and within the limit
-  abbrev pub counted : (tokens : ℕ) → Type 0
-  counted tokens = (count (past r) ≡ used (now r).tokens.ids) × (count (past r) ≤ tokens)
+  abbrev pub Counted : (tokens : ℕ) → Type 0
+  Counted tokens = (count (past r) ≡ used (now r).tokens.ids) × (count (past r) ≤ tokens)
 
   -- (iv) a grab or inhibit by an attached user, answered 0, is told too-many-tokens exactly when a free token is asked for at the limit
   abbrev pub ToldFull : (tokens : ℕ) (request : (ℕ → ℕ → Message)) → Type 0
@@ -103,7 +103,7 @@ module _ (r : Run) where
 
   -- all four
   abbrev pub Claims : (tokens : ℕ) → Type 0
-  Claims tokens = SameHolders × OnlyHolder × counted tokens × ToldFull tokens TGrq × ToldFull tokens TIrq
+  Claims tokens = SameHolders × OnlyHolder × Counted tokens × ToldFull tokens TGrq × ToldFull tokens TIrq
 
 -- of every run of events in range, from a fresh domain
 abbrev pub Demand3 : Type 0

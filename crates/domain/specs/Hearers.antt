@@ -258,36 +258,36 @@ WhoHeard = (l : Limits) (ts : List Turn) → So (in_range l) → So (all (λ t. 
 -- ---- "With T-01, data on that channel went only to such connections"
 
 -- data on a channel goes to connection q; where the channel is private by the history, to one that could have heard
-abbrev pub Went_right : (h : History) (q : ℕ) (on : Option ℕ) → Type 0
-Went_right h q none = Unit {0}
-Went_right h q (some c) = (g : ℕ) → convened h c ≡ some g → Hearer h c q
+abbrev pub WentRight : (h : History) (q : ℕ) (on : Option ℕ) → Type 0
+WentRight h q none = Unit {0}
+WentRight h q (some c) = (g : ℕ) → convened h c ≡ some g → Hearer h c q
 
 -- and by the tables, to one that is marked on the channel
-abbrev pub Went_marked : (d : Domain) (q : ℕ) (on : Option ℕ) → Type 0
-Went_marked d q none = Unit {0}
-Went_marked d q (some c) = So (marked d.channels q c)
+abbrev pub WentMarked : (d : Domain) (q : ℕ) (on : Option ℕ) → Type 0
+WentMarked d q none = Unit {0}
+WentMarked d q (some c) = So (marked d.channels q c)
 
--- `data-on` gives the channel of a data message: it is to be that of SDin and USin. No message of the codec is one today
-module _ (data-on : (Message → Option ℕ)) where
+-- `data_on` gives the channel of a data message: it is to be that of SDin and USin. No message of the codec is one today
+module _ (data_on : (Message → Option ℕ)) where
   -- every data message of a list went right
-  abbrev pub All_right : History → List Sent → Type 0
-  All_right h [] = Unit {0}
-  All_right h (to q m ∷ rs) = Went_right h q (data-on m) × All_right h rs
+  abbrev pub AllRight : History → List Sent → Type 0
+  AllRight h [] = Unit {0}
+  AllRight h (to q m ∷ rs) = WentRight h q (data_on m) × AllRight h rs
 
   -- in each event, by the history before it
-  abbrev pub Data_right : History → Type 0
-  Data_right (begins s) = Unit {0}
-  Data_right (e ▹ h) = All_right h e.sent × Data_right h
+  abbrev pub DataRight : History → Type 0
+  DataRight (begins s) = Unit {0}
+  DataRight (e ▹ h) = AllRight h e.sent × DataRight h
 
   -- every data message of a list went to a marked connection
-  abbrev pub All_marked : Domain → List Sent → Type 0
-  All_marked d [] = Unit {0}
-  All_marked d (to q m ∷ rs) = Went_marked d q (data-on m) × All_marked d rs
+  abbrev pub AllMarked : Domain → List Sent → Type 0
+  AllMarked d [] = Unit {0}
+  AllMarked d (to q m ∷ rs) = WentMarked d q (data_on m) × AllMarked d rs
 
   -- what T-01 has to show of the machine: data goes only to connections marked on its channel
   abbrev pub DataMarked : Type 0
-  DataMarked = (d : Domain) (e : Event) (room : ℕ) → Good d → So (formed e) → All_marked d (step d e room).sent
+  DataMarked = (d : Domain) (e : Event) (room : ℕ) → Good d → So (formed e) → AllMarked d (step d e room).sent
 
   -- what follows, of every run: "data on that channel went only to such connections"
   abbrev pub DataHeard : Type 0
-  DataHeard = (l : Limits) (ts : List Turn) → So (in_range l) → So (all (λ t. formed t.0) ts) → Data_right (past (from_fresh l ts))
+  DataHeard = (l : Limits) (ts : List Turn) → So (in_range l) → So (all (λ t. formed t.0) ts) → DataRight (past (from_fresh l ts))

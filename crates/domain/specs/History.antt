@@ -16,7 +16,7 @@ pub record Entry : Type 0 where
 
 -- how u came to hold a token
 pub data Gain : Type 0 where
-  nothing by-grab by-inhibit by-offer : Gain
+  nothing by_grab by_inhibit by_offer : Gain
 
 -- what history begins with: the connection of each user that counts as attached, how each user counts as holding a token, and the offers that count as open;
 -- the manager of each channel that counts as private, the users that count as admitted there, and the connections that count as told that they are joined
@@ -178,24 +178,24 @@ unfoldable pub gain : History → ℕ → ℕ → Gain
 gain (begins s) k u = s.gains k u
 gain (e ▹ h) k u =
     let before = gain h k u in
-    if told e grabs u k then by-grab
-    else if told e inhibits u k then by-inhibit
-    else if said e (home h u) accepts u k && open_offer h k u then by-offer
+    if told e grabs u k then by_grab
+    else if told e inhibits u k then by_inhibit
+    else if said e (home h u) accepts u k && open_offer h k u then by_offer
     else if told e yields u k || leaves e (home h u) u then nothing
     else before
 
 unfoldable pub held : Gain → Bool
 held nothing = false
-held by-grab = true
-held by-inhibit = true
-held by-offer = true
+held by_grab = true
+held by_inhibit = true
+held by_offer = true
 
 -- u alone is to hold it
 unfoldable pub alone : Gain → Bool
 alone nothing = false
-alone by-grab = true
-alone by-inhibit = false
-alone by-offer = true
+alone by_grab = true
+alone by_inhibit = false
+alone by_offer = true
 
 -- token k has a holder or an open offer; how many tokens have
 abbrev pub every_id : ℕ

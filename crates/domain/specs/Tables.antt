@@ -34,7 +34,7 @@ pub record Domain : Type 0 where
   pub tokens : Tokens
 
 -- what is said of a place, or of an id that has none
-abbrev pub seen : {A : Type 0} (at : Place) (none_there : A) (of-place : (ℕ → A)) → A
+abbrev pub seen : {A : Type 0} (at : Place) (none_there : A) (of_place : (ℕ → A)) → A
 seen (At i) z f = f i
 seen Nowhere z f = z
 
@@ -199,15 +199,15 @@ abbrev pub free_id : Channels → ℕ → Bool
 free_id cs new = between 1001 65535 new && not (found (find cs.ids new))
 
 -- "theirs to choose among free ones from 1001" (T-10)
-abbrev pub Free_id : Domain → ℕ → Type 0
-Free_id d new = So (free_id d.channels new)
+abbrev pub FreeId : Domain → ℕ → Type 0
+FreeId d new = So (free_id d.channels new)
 
 -- the domain of all its columns
-abbrev pub domain_of : (l : Limits) (links : ℕ) (user-ids user-links channel-ids channel-kinds managers admitted joined token-ids token-states token-values : List ℕ) → Domain
-domain_of l m user-ids user-links channel-ids channel-kinds managers admitted joined token-ids token-states token-values = record {
+abbrev pub domain_of : (l : Limits) (links : ℕ) (user_ids user_links channel_ids channel_kinds managers admitted joined token_ids token_states token_values : List ℕ) → Domain
+domain_of l m user_ids user_links channel_ids channel_kinds managers admitted joined token_ids token_states token_values = record {
   limits = l;
   links = m;
-  users = users_of user-ids user-links;
-  channels = channels_of channel-ids channel-kinds managers admitted joined;
-  tokens = tokens_of token-ids token-states token-values;
+  users = users_of user_ids user_links;
+  channels = channels_of channel_ids channel_kinds managers admitted joined;
+  tokens = tokens_of token_ids token_states token_values;
 }

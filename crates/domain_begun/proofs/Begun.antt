@@ -13,7 +13,7 @@ use Rattle.domain.specs.declared.Limits.{Limits}
 use Rattle.domain.specs.declared.token.Holding.{Holding}
 use Rattle.domain.specs.declared.token.Holding.TheVariants.{Free, Grabbed, Inhibited, Giving, Given}
 use Rattle.domain.specs.Tables.{Domain, name, state, fresh, seen}
-use Rattle.domain.specs.History.{nothing_yet, begins, home, gain, open_offer, Gain, nothing, by-grab, by-inhibit}
+use Rattle.domain.specs.History.{nothing_yet, begins, home, gain, open_offer, Gain, nothing, by_grab, by_inhibit}
 use Rattle.domain.specs.Claims.{run, now, past, goes}
 use Rattle.domain_laws.specs.Same.{home_of, among, ids_of, Standing, standing, token_at}
 use Rattle.domain_laws.specs.View.{view, pick, or_nobody}
@@ -63,9 +63,9 @@ module _ (d : Domain) (s : Sound d) where
       → ◌≡◌ {A = Mark} (flat (gained (standing d.users h) u), awaits (standing d.users h) u) (seen w nobody (stand h))
   unfolding standing gained awaits stand flat
   stands Free x u w e = by_place w (λ i. refl)
-  stands (Grabbed g) x u w e = rw (by_name g u x w e) (ap (λ (b : Bool). (flat (if seen w false (eqb g) then by-grab else nothing), b)) (by_place w (λ i. refl)) ∙ marked by-grab refl w (eqb g) (λ i. false))
-  stands (Inhibited m) x u w e = rw (by_mask m u w e) (ap (λ (b : Bool). (flat (if seen w false (has m) then by-inhibit else nothing), b)) (by_place w (λ i. refl)) ∙ marked by-inhibit refl w (has m) (λ i. false))
-  stands (Giving g r) x u w e = ap₂ (λ (a b : Bool). (flat (if a then by-grab else nothing), b)) (by_name g u x.0 w e) (by_name r u x.1 w e) ∙ marked by-grab refl w (eqb g) (eqb r)
+  stands (Grabbed g) x u w e = rw (by_name g u x w e) (ap (λ (b : Bool). (flat (if seen w false (eqb g) then by_grab else nothing), b)) (by_place w (λ i. refl)) ∙ marked by_grab refl w (eqb g) (λ i. false))
+  stands (Inhibited m) x u w e = rw (by_mask m u w e) (ap (λ (b : Bool). (flat (if seen w false (has m) then by_inhibit else nothing), b)) (by_place w (λ i. refl)) ∙ marked by_inhibit refl w (has m) (λ i. false))
+  stands (Giving g r) x u w e = ap₂ (λ (a b : Bool). (flat (if a then by_grab else nothing), b)) (by_name g u x.0 w e) (by_name r u x.1 w e) ∙ marked by_grab refl w (eqb g) (eqb r)
   stands (Given r) x u w e = ap (λ (b : Bool). (nothing, b)) (by_name r u x w e) ∙ go w
     where
       go : (w : Place) → ◌≡◌ {A = Mark} (nothing, seen w false (eqb r)) (seen w nobody (stand (Given r)))

@@ -105,13 +105,13 @@ unfolding from_image
 image_heard v ts t f = let r = taken.0 v t in tables_heard (built v) v ts r.0 r.1 f
 
 -- data went only to those, once it goes only to marked connections
-module _ (data-on : (Message → Option ℕ)) (law : DataMarked data-on) where
-  pub tables_data : DataHeardFromTables data-on
+module _ (data_on : (Message → Option ℕ)) (law : DataMarked data_on) where
+  pub tables_data : DataHeardFromTables data_on
   unfolding past
   tables_data d v ts g q f =
       let r = run d (begins (begun_by (view d))) in
-      rw (← q) (right_goes data-on law d.limits ts r f (begun_trusted d g, tt)).1
+      rw (← q) (right_goes data_on law d.limits ts r f (begun_trusted d g, tt)).1
 
-  pub image_data : DataHeardFromImage data-on
+  pub image_data : DataHeardFromImage data_on
   unfolding from_image
   image_data v ts t f = let r = taken.0 v t in tables_data (built v) v ts r.0 r.1 f

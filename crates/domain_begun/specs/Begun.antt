@@ -7,19 +7,19 @@ use Rattle.cols_spec.specs.Sets.{all, has, member}
 use Rattle.codec_table.specs.Named.{Message}
 use Rattle.domain.specs.Tables.{Domain}
 use Rattle.domain.specs.Good.{Good}
-use Rattle.domain.specs.History.{Start, begins, Gain, nothing, by-grab, by-inhibit}
+use Rattle.domain.specs.History.{Start, begins, Gain, nothing, by_grab, by_inhibit}
 use Rattle.domain.specs.Claims.{Turn, Run, run, now, past, goes, formed, Claims}
-use Rattle.domain.specs.Hearers.{Hearing, Data_right}
-use Rattle.domain_laws.specs.Same.{Role, static, user-id, assigned, private_of, Standing, nobody, grabbed, inhibited, giving, given}
+use Rattle.domain.specs.Hearers.{Hearing, DataRight}
+use Rattle.domain_laws.specs.Same.{Role, static, user_id, assigned, private_of, Standing, nobody, grabbed, inhibited, giving, given}
 use Rattle.domain_laws.specs.View.{View, view, pick, or_nobody}
 use Rattle.domain_laws.specs.Built.{built, takes}
 
 -- how user u counts as holding a token
 unfoldable pub gained : Standing → ℕ → Gain
 gained nobody u = nothing
-gained (grabbed g) u = if eqb u g then by-grab else nothing
-gained (inhibited is) u = if member u is then by-inhibit else nothing
-gained (giving g r) u = if eqb u g then by-grab else nothing
+gained (grabbed g) u = if eqb u g then by_grab else nothing
+gained (inhibited is) u = if member u is then by_inhibit else nothing
+gained (giving g r) u = if eqb u g then by_grab else nothing
 gained (given r) u = nothing
 
 -- an offer to user u counts as open
@@ -33,14 +33,14 @@ awaits (given r) u = eqb u r
 -- the manager, of a private channel
 unfoldable pub chair : Role → Option ℕ
 chair static = none
-chair user-id = none
+chair user_id = none
 chair assigned = none
 chair (private_of g is) = some g
 
 -- user u counts as admitted
 unfoldable pub invites : Role → ℕ → Bool
 invites static u = false
-invites user-id u = false
+invites user_id u = false
 invites assigned u = false
 invites (private_of g is) u = member u is
 
@@ -93,7 +93,7 @@ WhoHeardFromImage =
 
 -- where data went, of every image that is taken
 abbrev pub DataHeardFromImage : (Message → Option ℕ) → Type 0
-DataHeardFromImage data-on = (v : View) (ts : List Turn) → So (takes v) → So (all (λ t. formed t.0) ts) → Data_right data-on (past (from_image v ts))
+DataHeardFromImage data_on = (v : View) (ts : List Turn) → So (takes v) → So (all (λ t. formed t.0) ts) → DataRight data_on (past (from_image v ts))
 
 -- who could have heard, of any good tables that say what the image says
 abbrev pub WhoHeardFromTables : Type 0
@@ -103,6 +103,6 @@ WhoHeardFromTables =
 
 -- where data went, of any good tables that say what the image says
 abbrev pub DataHeardFromTables : (Message → Option ℕ) → Type 0
-DataHeardFromTables data-on =
+DataHeardFromTables data_on =
     (d : Domain) (v : View) (ts : List Turn) → Good d → view d ≡ v → So (all (λ t. formed t.0) ts)
-    → Data_right data-on (past (goes (run d (begins (begun_by v))) ts))
+    → DataRight data_on (past (goes (run d (begins (begun_by v))) ts))

@@ -11,7 +11,7 @@ use lib.Dec.{eqb, ltb}
 use borrow.Author.Tests.{eqb-true, lt-ltb, ltb-true, ltb-false}
 use Rattle.cols_spec.specs.Sets.{keep}
 use Rattle.cols_spec.proofs.Bools.{or_elim}
-use Rattle.domain_ids.specs.Rolling.{next_id, Reaches, stops, passes, search_from, how_many, SearchFinds, Since, just_now, freed, another, far_apart}
+use Rattle.domain_ids.specs.Rolling.{next_id, Reaches, stops, passes, search_from, how_many, SearchFinds, Since, just_now, freed, another, FarApart}
 use Rattle.domain.proofs.holders.Counting.{count_to, count_upto}
 
 -- ---- how many below a bound pass a test
@@ -235,7 +235,7 @@ module _ (start : ℕ → Bool) (x : ℕ) (lo : 1001 ≤ x) (hi : x ≤ 65535) (
           on (at q l m e c) = absurd (after_apart x lo hi 0 q (omega arith) m e)
 
 -- the count
-pub apart_ids : far_apart
+pub apart_ids : FarApart
 apart_ids start x lo hi itself few now last n s w = again start x lo hi itself (omega (arith, few, how_many_is start)) s w
 
 -- ---- the bounded search

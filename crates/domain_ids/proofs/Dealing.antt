@@ -14,7 +14,7 @@ use Rattle.cols_spec.specs.Sets.{all, any, null, each, has}
 use Rattle.cols_spec.specs.Places.{Place, At, Nowhere, find, found, spare, store}
 use Rattle.cols_spec.proofs.Bools.{and_parts, or_elim}
 use Rattle.cols_spec.proofs.Rows.{find_holds, not_there}
-use Rattle.cols_spec.proofs.Answers.{stands-found, found-somewhere, found_nowhere}
+use Rattle.cols_spec.proofs.Answers.{stands_found, found_somewhere, found_nowhere}
 use Rattle.cols_spec.proofs.Table.{new_place}
 use Rattle.cols_spec.proofs.Found.{find_added, find_still}
 use Rattle.codec_table.specs.Named.{Message, EDrq, DPum, RJum, AUrq, AUcf, DUrq, DUin, CJrq, CJcf, CLrq, CCrq, CCcf, CDrq, CDin, CArq, CAin, CErq, CEin}
@@ -30,7 +30,7 @@ use Rattle.domain.specs.Channels.{attach, may, join_at, join_new, join, joined, 
 use Rattle.domain.specs.Leaving.{fate, leave, those_on, detach, close}
 use Rattle.domain.specs.Events.{users_full, channels_full, tokens_full, act, Event, opens, loses, hears, Reading, reads, refuses, Outcome, stays, sends, ends, complaint, answers, step_with}
 use Rattle.domain.specs.Hearers.{joins, notice}
-use Rattle.domain_ids.specs.Rolling.{No_new, uses, hands_out, handed_by, Deals, none_out, one_out, DealsRight}
+use Rattle.domain_ids.specs.Rolling.{NoNew, uses, hands_out, handed_by, Deals, none_out, one_out, DealsRight}
 use Rattle.domain.proofs.Sending.{tell_all, own_all, farewell_all, complaint_all}
 use Rattle.domain.proofs.Answering.{Sends, take_all, share_all, drop_all, offer_all, please_all, test_all, answer_all}
 use Rattle.domain.proofs.invariant.Sound.{Sound, limits_le, between_is}
@@ -65,13 +65,13 @@ store_found : (ids : List ℕ) (w : Place) (c z : ℕ) → found (find (store id
 unfolding store
 store_found ids Nowhere c z h = rw h
 store_found ids (At j) c z h =
-    let r = found-somewhere (find (set ids j c) z) h in
+    let r = found_somewhere (find (set ids j c) z) h in
     let q = find_holds (set ids j c) z r.0 r.1 in
     go r.0 q.0 q.1 q.2 (eqb r.0 j) refl
   where
     go : (i : ℕ) → get_or (set ids j c) i 0 ≡ z → i < length (set ids j c) → 0 < z → (b : Bool) → eqb i j ≡ b → (found (find ids z) || eqb z c) ≡ true
     go i e l p true f = rw (eq-eqb z c (sym e ∙ ap (λ (n : ℕ). get_or (set ids j c) n 0) (eqb-true i j f) ∙ get_or-set_same ids j c 0 (omega (arith, l, length-set ids j c, eqb-true i j f)))) (or-true (found (find ids z)))
-    go i e l p false f = rw (stands-found ids z i p (sym (get_or-set_other ids j i c 0 (eqb-false i j f)) ∙ e))
+    go i e l p false f = rw (stands_found ids z i p (sym (get_or-set_other ids j i c 0 (eqb-false i j f)) ∙ e))
 
 -- a choice, each case with what it knows
 pub choose : {A : Type 0} (F : (A → Type 0)) (b : Bool) {x y : A} → (b ≡ true → F x) → (b ≡ false → F y) → F (if b then x else y)
@@ -81,7 +81,7 @@ choose F false p q = q refl
 module _ (d : Domain) (s : Sound d) (new : ℕ) (lo : 1001 ≤ new) (away : (j : ℕ) → get_or d.channels.ids j 0 ≡ new → ⊥) where
   -- channels of which none from 1001 on is in use that was not
   abbrev Kept : Channels → Type 0
-  Kept cs = No_new (uses d) (λ z. found (find cs.ids z))
+  Kept cs = NoNew (uses d) (λ z. found (find cs.ids z))
 
   kept_same : Kept d.channels
   kept_same z l h = h
@@ -190,42 +190,42 @@ module _ (d : Domain) (s : Sound d) (new : ℕ) (lo : 1001 ≤ new) (away : (j :
 
   -- ---- events
 
-  abbrev Dealing_all : Effect Domain → Type 0
-  Dealing_all ignored = Unit {0}
-  Dealing_all (done e rs) = Dealt rs e.channels
+  abbrev DealingAll : Effect Domain → Type 0
+  DealingAll ignored = Unit {0}
+  DealingAll (done e rs) = Dealt rs e.channels
 
   abbrev Ending : Outcome → Type 0
   Ending o = Dealt o.sent o.domain.channels
 
-  of_channels : (x : Effect Channels) → Dealing x → Dealing_all (within (put_channels d) x)
+  of_channels : (x : Effect Channels) → Dealing x → DealingAll (within (put_channels d) x)
   unfolding within
   of_channels ignored g = tt
   of_channels (done cs rs) g = g
 
-  of_tokens : (x : Effect Tokens) → Sends idle x → Dealing_all (within (put_tokens d) x)
+  of_tokens : (x : Effect Tokens) → Sends idle x → DealingAll (within (put_tokens d) x)
   unfolding within
   of_tokens ignored h = tt
   of_tokens (done ts rs) h = none_out (all_idle rs h) kept_same
 
-  attach_deals : (uf cf : Bool) → channels_full d ≡ cf → (p : ℕ) → Dealing_all (within (put_both d) (attach new uf cf d.users d.channels p))
+  attach_deals : (uf cf : Bool) → channels_full d ≡ cf → (p : ℕ) → DealingAll (within (put_both d) (attach new uf cf d.users d.channels p))
   unfolding attach within handed_by each notice hands_out
   attach_deals true cf e p = none_out refl kept_same
   attach_deals false true e p = none_out refl kept_same
   attach_deals false false e p = added p (AUcf successful (some new)) _ refl e
 
-  leave_deals : (live reason : ℕ) (ids : List ℕ) → Dealing_all (leave d live reason ids)
+  leave_deals : (live reason : ℕ) (ids : List ℕ) → DealingAll (leave d live reason ids)
   unfolding leave notice hands_out null
   leave_deals live reason ids = none_out (all_idle _ (farewell_all idle (λ p n us. refl) (λ p c. refl) (λ p u k t. refl) d _ live reason ids)) (kept_swept (fate d.users _ live))
 
-  detach_deals : (p reason : ℕ) (ids : List ℕ) → Dealing_all (detach d p reason ids)
+  detach_deals : (p reason : ℕ) (ids : List ℕ) → DealingAll (detach d p reason ids)
   unfolding detach
-  detach_deals p reason ids = choose Dealing_all (null (those_on d.users p _)) (λ a. tt) (λ a. leave_deals _ _ _)
+  detach_deals p reason ids = choose DealingAll (null (those_on d.users p _)) (λ a. tt) (λ a. leave_deals _ _ _)
 
-  close_deals : (p : ℕ) → Dealing_all (close d p)
+  close_deals : (p : ℕ) → DealingAll (close d p)
   unfolding close
   close_deals p = leave_deals _ _ _
 
-  act_deals : (p : ℕ) (m : Message) → Dealing_all (act new d p m)
+  act_deals : (p : ℕ) (m : Message) → DealingAll (act new d p m)
   unfolding act handed_by each notice hands_out null
   act_deals p (EDrq h i) = none_out refl kept_same
   act_deals p (DPum n) = close_deals p
@@ -268,7 +268,7 @@ module _ (d : Domain) (s : Sound d) (new : ℕ) (lo : 1001 ≤ new) (away : (j :
   unfolding sends
   sends_deals room n e rs g = choose Ending (ltb room (length (records rs))) (λ a. stays_deals 9) (λ a. g)
 
-  ends_deals : (room : ℕ) (x : Effect Domain) → Dealing_all x → Ending (ends d room x)
+  ends_deals : (room : ℕ) (x : Effect Domain) → DealingAll x → Ending (ends d room x)
   unfolding ends
   ends_deals room ignored g = stays_deals 1
   ends_deals room (done e rs) g = sends_deals room 0 e rs g

@@ -12,7 +12,7 @@ use Rattle.domain.specs.Tables.{Domain, between}
 use Rattle.domain.specs.Events.{Outcome, step_with}
 use Rattle.domain.specs.Good.{Good}
 use Rattle.domain.specs.Claims.{Turn, formed}
-use Rattle.domain_ids.specs.Rolling.{next_id, Reaches, stops, passes, search_from, how_many, Only_new, Since, just_now, freed, another, uses, upcoming, UpcomingRight, SameStepRolling, FreshFirst, handed_by, Deals, none_out, one_out, Handing, latest, hands, hands_all, Spaced, SpacedRun}
+use Rattle.domain_ids.specs.Rolling.{next_id, Reaches, stops, passes, search_from, how_many, OnlyNew, Since, just_now, freed, another, uses, upcoming, UpcomingRight, SameStepRolling, FreshFirst, handed_by, Deals, none_out, one_out, Handing, latest, hands, hands_all, Spaced, SpacedRun}
 use Rattle.domain.proofs.Opened.{opened}
 use Rattle.domain.proofs.invariant.Sound.{limits_le, is_between}
 use Rattle.domain.proofs.invariant.Tests.{apart_distinct}
@@ -110,7 +110,7 @@ module _ (s : Handing) (k : Kept s) (t : Turn) (f : So (formed t.0)) where
   good_then = step_good d new t.0 t.1 k.good f free_new
 
   -- the new id is handed out
-  later : uses e new ≡ true → Only_new (uses d) (uses e) new → (vs ws : List ℕ) (x : ℕ) → (new ∷ s.handed) ≡ vs ++ (x ∷ ws) → Before (then (new ∷ [])) x (length vs)
+  later : uses e new ≡ true → OnlyNew (uses d) (uses e) new → (vs ws : List ℕ) (x : ℕ) → (new ∷ s.handed) ≡ vs ++ (x ∷ ws) → Before (then (new ∷ [])) x (length vs)
   unfolding latest
   later q only [] ws x h =
       subst (λ (y : ℕ). Before (then (new ∷ [])) y 0) (head_is h)

@@ -6,7 +6,7 @@ use Rattle.cols_spec.specs.Sets.{keep, all, each, below}
 use Rattle.cols_spec.specs.Places.{find, found}
 use Rattle.out_records.specs.Records.{Sent, to}
 use Rattle.domain.specs.declared.Limits.{Limits}
-use Rattle.domain.specs.Tables.{Domain, fresh, Free_id}
+use Rattle.domain.specs.Tables.{Domain, fresh, FreeId}
 use Rattle.domain.specs.Events.{Event, step_with}
 use Rattle.domain.specs.Good.{Good}
 use Rattle.domain.specs.Claims.{Turn, formed}
@@ -42,23 +42,23 @@ SearchFinds =
 -- ---- the count
 
 -- of the ids from 1001 on none comes into use; none but y does. (Static channels come and go below.)
-abbrev pub No_new : (before after : (ℕ → Bool)) → Type 0
-No_new before after = (z : ℕ) → 1001 ≤ z → after z ≡ true → before z ≡ true
+abbrev pub NoNew : (before after : (ℕ → Bool)) → Type 0
+NoNew before after = (z : ℕ) → 1001 ≤ z → after z ≡ true → before z ≡ true
 
-abbrev pub Only_new : (before after : (ℕ → Bool)) → ℕ → Type 0
-Only_new before after y = (z : ℕ) → 1001 ≤ z → after z ≡ true → (before z || eqb z y) ≡ true
+abbrev pub OnlyNew : (before after : (ℕ → Bool)) → ℕ → Type 0
+OnlyNew before after y = (z : ℕ) → 1001 ≤ z → after z ≡ true → (before z || eqb z y) ≡ true
 
 -- x was handed out, and the ids `start` were in use then. Since then n ids were handed out, `last` is the last one, and the ids `now` are in use
 pub data Since (start : ℕ → Bool) (x : ℕ) : (now : (ℕ → Bool)) (last n : ℕ) → Type 0 where
   just_now : Since start x start x 0
   -- some ids are no longer in use
-  freed : {now after : ℕ → Bool} {last n : ℕ} → Since start x now last n → No_new now after → Since start x after last n
+  freed : {now after : ℕ → Bool} {last n : ℕ} → Since start x now last n → NoNew now after → Since start x after last n
   -- y is handed out: the first free id from the one that follows the last
-  another : {now after : ℕ → Bool} {last n y : ℕ} → Since start x now last n → Reaches now (next_id last) y → Only_new now after y → Since start x after y (suc n)
+  another : {now after : ℕ → Bool} {last n y : ℕ} → Since start x now last n → Reaches now (next_id last) y → OnlyNew now after y → Since start x after y (suc n)
 
 -- at most 128 ids are in use when x is handed out, x among them: before the search ends at x again, at least 64,407 are handed out
-abbrev pub far_apart : Type 0
-far_apart =
+abbrev pub FarApart : Type 0
+FarApart =
     (start : (ℕ → Bool)) (x : ℕ) → 1001 ≤ x → x ≤ 65535 → start x ≡ true → how_many start ≤ 128
     → (now : (ℕ → Bool)) (last n : ℕ) → Since start x now last n → Reaches now (next_id last) x → 64407 ≤ n
 
@@ -100,13 +100,13 @@ handed_by rs = each (λ r. elim r [ to p m ↦ hands_out (notice m) ]) rs
 
 -- An event hands out nothing, and no id comes into use; or it hands out `new`, which is in use then, and no other comes into use
 pub data Deals (new : ℕ) (before after : ℕ → Bool) (out : List ℕ) : Type 0 where
-  none_out : out ≡ [] → No_new before after → Deals new before after out
-  one_out : out ≡ new ∷ [] → after new ≡ true → Only_new before after new → Deals new before after out
+  none_out : out ≡ [] → NoNew before after → Deals new before after out
+  one_out : out ≡ new ∷ [] → after new ≡ true → OnlyNew before after new → Deals new before after out
 
 -- what is read from the records is what the tables do
 abbrev pub DealsRight : Type 0
 DealsRight =
-    (d : Domain) (new : ℕ) (v : Event) (room : ℕ) → Good d → Free_id d new
+    (d : Domain) (new : ℕ) (v : Event) (room : ℕ) → Good d → FreeId d new
     → Deals new (uses d) (uses (step_with new d v room).domain) (handed_by (step_with new d v room).sent)
 
 -- no refusal changes: whatever new id is chosen, the reply is the same, and as many ids are handed out

@@ -14,7 +14,7 @@ use Rattle.domain.specs.Cells.{no_channel, no_token, channel_of, token_of}
 use Rattle.domain.specs.Tables.{Users, Channels, Tokens, Domain}
 use Rattle.domain.specs.Channels.{places}
 use Rattle.domain.specs.Good.{Good, good}
-use Rattle.domain_laws.specs.Same.{Role, static, user-id, assigned, private_of, Standing, nobody, grabbed, inhibited, giving, given, Same}
+use Rattle.domain_laws.specs.Same.{Role, static, user_id, assigned, private_of, Standing, nobody, grabbed, inhibited, giving, given, Same}
 use Rattle.domain_laws.specs.View.{View, view}
 
 -- a list, followed by blanks up to n places
@@ -32,7 +32,7 @@ place us u = number 64 (find us.ids u)
 -- the kind of a channel, its users named by their places
 unfoldable pub kind_built : Users → Role → Kind
 kind_built us static = Static
-kind_built us user-id = User
+kind_built us user_id = User
 kind_built us assigned = Assigned
 kind_built us (private_of g is) = Private (place us g) (places us is)
 
@@ -74,8 +74,8 @@ pub record Restored (d : Domain) : Type 0 where
   pub same : Same (built (view d)) d
 
 -- of all good tables
-abbrev pub restores : Type 0
-restores = (d : Domain) → Good d → Restored d
+abbrev pub Restores : Type 0
+Restores = (d : Domain) → Good d → Restored d
 
 -- ---- the images that are taken
 
@@ -95,7 +95,7 @@ are_there us is = ascending 0 is && all (is_there us) is
 -- the users that a channel's row names are attached
 unfoldable pub role_proper : Users → Role → Bool
 role_proper us static = true
-role_proper us user-id = true
+role_proper us user_id = true
 role_proper us assigned = true
 role_proper us (private_of g is) = is_there us g && are_there us is
 

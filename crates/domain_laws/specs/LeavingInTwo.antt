@@ -17,17 +17,17 @@ unfoldable pub reported : Domain → ℕ → Report → Outcome
 reported d p q = step d (hears p (reads (DUrq q.reason q.ids))) q.room
 
 -- "every answer has room"
-abbrev pub Has_room : Domain → ℕ → Report → Type 0
-Has_room d p q = (reported d p q).reply ≡ 9 → ⊥
+abbrev pub HasRoom : Domain → ℕ → Report → Type 0
+HasRoom d p q = (reported d p q).reply ≡ 9 → ⊥
 
 -- a list names the users of two others: those of either, in any order, each as often as it likes
-abbrev pub Names_both : (whole a b : List ℕ) → Type 0
-Names_both whole a b = (u : ℕ) → member u whole ≡ (member u a || member u b)
+abbrev pub NamesBoth : (whole a b : List ℕ) → Type 0
+NamesBoth whole a b = (u : ℕ) → member u whole ≡ (member u a || member u b)
 
 -- "leaving in one message or in two .. ends in the same tables": all columns are equal, place by place. a and b are any two lists, so this is either order;
 -- ids that are not on p, or stand in both, and different reasons and rooms change nothing
 abbrev pub OneOrTwo : Type 0
 OneOrTwo =
-    (d : Domain) (p : ℕ) (whole a b : Report) → Good d → Names_both whole.ids a.ids b.ids
-    → Has_room d p whole → Has_room d p a → Has_room (reported d p a).domain p b
+    (d : Domain) (p : ℕ) (whole a b : Report) → Good d → NamesBoth whole.ids a.ids b.ids
+    → HasRoom d p whole → HasRoom d p a → HasRoom (reported d p a).domain p b
     → (reported (reported d p a).domain p b).domain ≡ (reported d p whole).domain

@@ -10,7 +10,7 @@ use Rattle.domain.specs.declared.channel.Kind.TheVariants.{Static, User, Private
 use Rattle.domain.specs.declared.token.Holding.{Holding}
 use Rattle.domain.specs.declared.token.Holding.TheVariants.{Free, Grabbed, Inhibited, Giving, Given}
 use Rattle.domain.specs.Cells.{kind}
-use Rattle.domain.specs.Tables.{Users, Channels, Tokens, Domain, seen, name, link, channel, state, Free_id}
+use Rattle.domain.specs.Tables.{Users, Channels, Tokens, Domain, seen, name, link, channel, state, FreeId}
 use Rattle.domain.specs.Effects.{Settled}
 use Rattle.domain.specs.Events.{Event, Outcome, step_with, step}
 use Rattle.domain.specs.Outcomes.{after, audience}
@@ -36,13 +36,13 @@ ids_of us m = keep (among us m) (in_order us.ids)
 
 -- what a channel is; of a private one the manager, and the admitted users, ascending
 pub data Role : Type 0 where
-  static user-id assigned : Role
+  static user_id assigned : Role
   private_of : ℕ → List ℕ → Role
 
 -- the kind of a channel, its users named by their ids
 unfoldable pub role_of : Users → Kind → Role
 role_of us Static = static
-role_of us User = user-id
+role_of us User = user_id
 role_of us (Private g adm) = private_of (name us g) (ids_of us adm)
 role_of us Assigned = assigned
 
@@ -95,28 +95,28 @@ pub record Alike (o r : Outcome) : Type 0 where
   pub tables : Same o.domain r.domain
 
 -- every event whose fields are in range, with any room, on tables that say the same
-abbrev pub same_step : Type 0
-same_step = (d e : Domain) (v : Event) (room : ℕ) → Good d → Good e → Same d e → So (formed v) → Alike (step d v room) (step e v room)
+abbrev pub SameStep : Type 0
+SameStep = (d e : Domain) (v : Event) (room : ℕ) → Good d → Good e → Same d e → So (formed v) → Alike (step d v room) (step e v room)
 
 -- also for another choice of a new id (T-04, T-10): one from 1001 that is free in the one, and so in the other
 abbrev pub SameStepWith : Type 0
 SameStepWith =
-    (d e : Domain) (new : ℕ) (v : Event) (room : ℕ) → Good d → Good e → Same d e → So (formed v) → Free_id d new
+    (d e : Domain) (new : ℕ) (v : Event) (room : ℕ) → Good d → Good e → Same d e → So (formed v) → FreeId d new
     → Alike (step_with new d v room) (step_with new e v room)
 
 -- the same of the room lent for the answer, octet by octet
-pub record Settled-alike (s t : Settled Domain) : Type 0 where
+pub record SettledAlike (s t : Settled Domain) : Type 0 where
   pub reply : s.reply ≡ t.reply
   pub sent : s.sent ≡ t.sent
   pub room : s.room ≡ t.room
   pub tables : Same s.tables t.tables
 
-abbrev pub same_after : Type 0
-same_after = (d e : Domain) (v : Event) (out : List ℕ) → Good d → Good e → Same d e → So (formed v) → Settled-alike (after d v out) (after e v out)
+abbrev pub SameAfter : Type 0
+SameAfter = (d e : Domain) (v : Event) (out : List ℕ) → Good d → Good e → Same d e → So (formed v) → SettledAlike (after d v out) (after e v out)
 
 -- any events, with any rooms: a restart with tables that say the same is not noticed, for history goes on alike
-abbrev pub same_run : Type 0
-same_run =
+abbrev pub SameRun : Type 0
+SameRun =
     (d e : Domain) (h : History) (ts : List Turn) → Good d → Good e → Same d e → So (all (λ t. formed t.0) ts)
     → (past (goes (run d h) ts) ≡ past (goes (run e h) ts)) × Same (now (goes (run d h) ts)) (now (goes (run e h) ts))
 

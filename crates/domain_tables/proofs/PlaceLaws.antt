@@ -8,7 +8,7 @@ use lib.Dec.{ltb}
 use lib.ListN.{length}
 use borrow.Author.Tests.{ltb-true, ltb-false, lt-ltb, le-ltb}
 use Rattle.cols_spec.specs.Places.{Place, At, Nowhere, find, spare, number}
-use Rattle.cols_spec.proofs.Answers.{find_at, find-nowhere, spare-at, spare-nowhere}
+use Rattle.cols_spec.proofs.Answers.{find_at, find_nowhere, spare_at, spare_nowhere}
 use Rattle.domain_tables.specs.Numbered.{place}
 
 -- a number below n is that place, and any other is nowhere
@@ -29,7 +29,7 @@ unfolding place
 place_out n r h = rw (le-ltb r n h) refl
 
 pub find_place : (ids : List ℕ) (x r n : ℕ) → length ids ≡ n → r ≡ number (length ids) (find ids x) → place n r ≡ find ids x
-find_place ids x r n size is = rw size at (place_is (length ids) r (find ids x) (find_at ids x r is) (find-nowhere ids x r is))
+find_place ids x r n size is = rw size at (place_is (length ids) r (find ids x) (find_at ids x r is) (find_nowhere ids x r is))
 
 pub spare_place : (ids : List ℕ) (r n : ℕ) → length ids ≡ n → r ≡ number (length ids) (spare ids) → place n r ≡ spare ids
-spare_place ids r n size is = rw size at (place_is (length ids) r (spare ids) (spare-at ids r is) (spare-nowhere ids r is))
+spare_place ids r n size is = rw size at (place_is (length ids) r (spare ids) (spare_at ids r is) (spare_nowhere ids r is))

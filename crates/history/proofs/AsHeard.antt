@@ -22,7 +22,7 @@ use Rattle.serve_read.specs.Understood.{number_in, read_as, understood}
 use Rattle.provider.proofs.Replies.{Fair, understood_fair}
 use Rattle.history.specs.Recorded.{Call, opening, losing, message, read_call}
 use Rattle.history.specs.Served.{event, Bytewise}
-use Rattle.history.proofs.Sendable.{Legible, Comes_legible}
+use Rattle.history.proofs.Sendable.{Legible, ComesLegible}
 
 -- whatever is said of refusals and of what is heard
 pub understood_by : (os : List ℕ) (P : (Reading → Type 0)) → ((n : ℕ) → P (refuses n os)) → ((m : Message) → heard os ≡ ok m → P (reads m)) → P (understood os)
@@ -39,7 +39,7 @@ understood_by os P f g =
     go (refuse n) e = f n
 
 -- octets below 256 give an event that can be read
-pub event_legible : (c : Call) → Bytewise c → Comes_legible (event c)
+pub event_legible : (c : Call) → Bytewise c → ComesLegible (event c)
 unfolding event
 event_legible (opening p) y = tt
 event_legible (losing p) y = tt

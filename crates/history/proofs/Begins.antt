@@ -7,21 +7,21 @@ use Rattle.domain.specs.Tables.{Domain}
 use Rattle.domain.specs.History.{Start, nothing_yet}
 use Rattle.domain.specs.Outcomes.{begun}
 use Rattle.imaging.specs.Claims.{restored, start_of}
-use Rattle.history.specs.Served.{Turn, All_bytewise, Run, run, serves, started}
-use Rattle.history.specs.Begins.{From_start, From_tables, From_image}
+use Rattle.history.specs.Served.{Turn, AllBytewise, Run, run, serves, started}
+use Rattle.history.specs.Begins.{FromStart, FromTables, FromImage}
 use Rattle.history.proofs.Called.{calls_run, start_calls}
 use Rattle.history.proofs.Runs.{read_by, read_zero}
 
 module _ (P : (Start → Run → Type 0)) where
-  pub start_by : ((channels users tokens : ℕ) (before : Domain) (ts : List Turn) → (begun channels users tokens before).0 ≡ 0 → All_bytewise ts
-      → P nothing_yet (serves (started channels users tokens before) ts)) → From_start P
+  pub start_by : ((channels users tokens : ℕ) (before : Domain) (ts : List Turn) → (begun channels users tokens before).0 ≡ 0 → AllBytewise ts
+      → P nothing_yet (serves (started channels users tokens before) ts)) → FromStart P
   start_by law channels users tokens before ts y = (
     λ z. law channels users tokens before ts z y,
     start_calls (P nothing_yet) channels users tokens before ts (λ z. law channels users tokens before ts z y),
   )
 
   -- and what holds from good tables holds from those that were read
-  pub image_by : From_tables P → From_image P
+  pub image_by : FromTables P → FromImage P
   image_by law image before ts b y = (λ z. from_read (restored image before).1 (read_zero image before z), λ d z r c. rw (calls_run c) (from_read d z))
     where
       from_read : (d : Domain) → ◌≡◌ {A = ℕ × Domain} (0, d) (restored image before) → P (start_of image) (serves (run d []) ts)

@@ -13,7 +13,7 @@ use Rattle.domain.specs.Tables.{Domain}
 use Rattle.domain.specs.Events.{Event, hears, reads, step}
 use Rattle.domain.specs.Good.{Good}
 use Rattle.domain.specs.History.{Start, nothing_yet, History, begins, full, told, held}
-use Rattle.domain.specs.Claims.{holder, Run as EventRun, run as event_run, now, past as event_past, goes, from_fresh, SameHolders as event_holders, OnlyHolder as event_only, counted as event_counted}
+use Rattle.domain.specs.Claims.{holder, Run as EventRun, run as event_run, now, past as event_past, goes, from_fresh, SameHolders as event_holders, OnlyHolder as event_only, Counted as event_counted}
 use Rattle.domain.specs.Claims.{ToldFull as event_full, Claims as EventClaims}
 use Rattle.domain_laws.specs.View.{view}
 use Rattle.domain_begun.specs.Begun.{begun_by}
@@ -24,8 +24,8 @@ use Rattle.serve_read.specs.Understood.{read_as}
 use Rattle.codec_octets.specs.Octets.{Bytes}
 use Rattle.imaging.specs.Claims.{restored, start_of}
 use Rattle.history.specs.Recorded.{message, read_call}
-use Rattle.history.specs.Served.{Turn, All_bytewise, event, Run, run, tables, serves, started}
-use Rattle.history.specs.Claims.{past, SameHolders, OnlyHolder, counted, ToldFull, Claims, OfRuns, of_calls, Demand3, TablesRuns, ImageRuns, ImageCalls, Demand3FromImage}
+use Rattle.history.specs.Served.{Turn, AllBytewise, event, Run, run, tables, serves, started}
+use Rattle.history.specs.Claims.{past, SameHolders, OnlyHolder, Counted, ToldFull, Claims, OfRuns, OfCalls, Demand3, TablesRuns, ImageRuns, ImageCalls, Demand3FromImage}
 use Rattle.history.proofs.Alike.{told_alike, home_alike, gain_alike, busy_alike, count_alike}
 use Rattle.history.proofs.AsHeard.{same_event}
 use Rattle.history.proofs.Called.{calls_run, start_calls}
@@ -47,7 +47,7 @@ module _ (s : Start) (q : EventRun) (r : Run) (f : Follows s r q) where
   holder_only h k u v a b = h k u v (rw (gain_alike (past s r) known f.alike k u) at a) (rw (gain_alike (past s r) known f.alike k v) at b)
 
   -- (iii)
-  tokens_counted : (tokens : ℕ) → event_counted q tokens → counted s r tokens
+  tokens_counted : (tokens : ℕ) → event_counted q tokens → Counted s r tokens
   tokens_counted tokens h =
       let e = count_alike (past s r) known f.alike in
       (e ∙ h.0 ∙ ap (λ (d : Domain). used d.tokens.ids) (sym f.same_tables), rw e h.1)
@@ -82,7 +82,7 @@ module _ (channels users tokens : ℕ) (before : Domain) (ts : List Turn) where
       (run_good channels users tokens before ts z y) (event_demand l es (limits_right channels users tokens before z) (all_formed ts y))
 
   -- of what was called
-  calls_claims : of_calls channels users tokens before ts
+  calls_claims : OfCalls channels users tokens before ts
   calls_claims d z y r c = start_calls (λ q. Claims nothing_yet q tokens) channels users tokens before ts (λ w. runs_claims w y) d z r c
 
 -- the whole demand
@@ -103,7 +103,7 @@ module _ (ts : List Turn) where
 
   module _ (image : List ℕ) (before : Domain) where
     -- from those that were read
-    from_read : (d : Domain) → ◌≡◌ {A = ℕ × Domain} (0, d) (restored image before) → Bytes image → All_bytewise ts → Claims (start_of image) (serves (run d []) ts) d.limits.tokens
+    from_read : (d : Domain) → ◌≡◌ {A = ℕ × Domain} (0, d) (restored image before) → Bytes image → AllBytewise ts → Claims (start_of image) (serves (run d []) ts) d.limits.tokens
     from_read d z b y = read_by (λ s d. Claims s (serves (run d []) ts) d.limits.tokens) (λ d g. from_tables d g y) image before d b z
 
     -- of the run

@@ -20,7 +20,7 @@ use Rattle.domain.proofs.invariant.GoodIsSound.{good_sound}
 use Rattle.domain.proofs.invariant.Invariant.{grant_free, good_next}
 use Rattle.domain.specs.Outcomes.{step_settled as answer_turned, after}
 use Rattle.history.specs.Recorded.{read_note, read_records, read}
-use Rattle.history.specs.Served.{Turn, event, Bytewise, All_bytewise, Run, tables, notes, noted, served, serves}
+use Rattle.history.specs.Served.{Turn, event, Bytewise, AllBytewise, Run, tables, notes, noted, served, serves}
 use Rattle.history.proofs.ReadBack.{Readables, read_back}
 use Rattle.history.proofs.Sendable.{sent_readable}
 use Rattle.history.proofs.AsHeard.{event_legible, event_formed, same_event}
@@ -31,7 +31,7 @@ abbrev pub as_event : Turn → EventTurn
 as_event t = (event t.0, length t.1)
 
 -- the machine takes each of them
-pub all_formed : (ts : List Turn) → All_bytewise ts → So (all (λ t. formed t.0) (map as_event ts))
+pub all_formed : (ts : List Turn) → AllBytewise ts → So (all (λ t. formed t.0) (map as_event ts))
 unfolding all
 all_formed [] y = refl
 all_formed (t ∷ ts) y = and_both (event_formed t.0 y.0) (all_formed ts y.1)
@@ -63,7 +63,7 @@ pub record Follows (s : Start) (r : Run) (q : EventRun) : Type 0 where
   pub alike : Alike (read s (notes r)) (past q)
 
 -- turn by turn, from any good tables and histories that say the same
-pub follows : (b : Start) (ts : List Turn) (r : Run) (h : History) → Good (tables r) → Alike (read b (notes r)) h → All_bytewise ts
+pub follows : (b : Start) (ts : List Turn) (r : Run) (h : History) → Good (tables r) → Alike (read b (notes r)) h → AllBytewise ts
     → Follows b (serves r ts) (goes (event_run (tables r) h) (map as_event ts))
 unfolding serves goes next_run now past served tables notes read after answer_turned
 follows b [] r h g s y = record { same_tables = refl; alike = s }

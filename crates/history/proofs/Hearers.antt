@@ -11,7 +11,7 @@ use Rattle.out_records.specs.Records.{Sent, to}
 use Rattle.domain.specs.Tables.{Domain}
 use Rattle.domain.specs.Events.{Event}
 use Rattle.domain.specs.History.{Entry, Start, nothing_yet, History, begins, ◌▹◌}
-use Rattle.domain.specs.Hearers.{Went_right, All_right, Data_right, DataHeard as event_data}
+use Rattle.domain.specs.Hearers.{WentRight, AllRight, DataRight, DataHeard as event_data}
 use Rattle.domain_begun.specs.Begun.{begun_by, DataHeardFromTables as event_tables_data}
 use Rattle.domain_laws.specs.View.{view}
 use Rattle.domain.specs.Hearers.{convened, event_opens, link_opened, told_joined, admitted, entitled, Hearer, Hearing}
@@ -22,7 +22,7 @@ use Rattle.domain_begun.proofs.Heard.{tables_heard as event_tables}
 use Rattle.domain.specs.Outcomes.{limited}
 use Rattle.history.specs.Served.{Run, run, serves, started}
 use Rattle.history.specs.Claims.{past}
-use Rattle.history.specs.Hearers.{Heard, WhoHeard, WhoHeardFromTables, WhoHeardFromImage, Data_heard, DataHeard, DataHeardFromTables, DataHeardFromImage}
+use Rattle.history.specs.Hearers.{Heard, WhoHeard, WhoHeardFromTables, WhoHeardFromImage, HasHeardData, DataHeard, DataHeardFromTables, DataHeardFromImage}
 use Rattle.history.proofs.Alike.{Like, Alike, home_alike}
 use Rattle.history.proofs.Follows.{as_event, all_formed, Follows}
 use Rattle.history.proofs.Runs.{tables_follow, limits_right, run_follows}
@@ -110,38 +110,38 @@ image_heard = image_by Heard tables_heard
 
 -- ---- data
 
-module _ (data-on : (Message → Option ℕ)) where
+module _ (data_on : (Message → Option ℕ)) where
   -- data that went right by the one went right by the other
-  all_alike : (g h : History) → Alike g h → (rs : List Sent) → All_right data-on h rs → All_right data-on g rs
+  all_alike : (g h : History) → Alike g h → (rs : List Sent) → AllRight data_on h rs → AllRight data_on g rs
   all_alike g h s [] x = tt
-  all_alike g h s (to q m ∷ rs) x = (go (data-on m) x.0, all_alike g h s rs x.1)
+  all_alike g h s (to q m ∷ rs) x = (go (data_on m) x.0, all_alike g h s rs x.1)
     where
-      go : (on : Option ℕ) → Went_right h q on → Went_right g q on
+      go : (on : Option ℕ) → WentRight h q on → WentRight g q on
       go none y = tt
       go (some c) y = λ v e. hearer_alike g h s c q (y v (sym (convened_alike g h s c) ∙ e))
 
   -- entry by entry
-  right_alike : (g h : History) → Alike g h → Data_right data-on h → Data_right data-on g
+  right_alike : (g h : History) → Alike g h → DataRight data_on h → DataRight data_on g
   right_alike (begins x) (begins y) s z = tt
   right_alike (begins x) (b ▹ h) s z = absurd s
   right_alike (a ▹ g) (begins y) s x = absurd s
   right_alike (a ▹ g) (b ▹ h) s x = (rw s.0.sent (all_alike g h s.1 b.sent x.0), right_alike g h s.1 x.1)
 
   -- from the same of messages: from what `start` made
-  pub data_octets : event_data data-on → DataHeard data-on
-  data_octets law = start_by (Data_heard data-on) (λ channels users tokens before ts z y.
+  pub data_octets : event_data data_on → DataHeard data_on
+  data_octets law = start_by (HasHeardData data_on) (λ channels users tokens before ts z y.
       let l = limited channels users tokens in
       let es = map as_event ts in
       right_alike (past nothing_yet (serves (started channels users tokens before) ts)) (event_past (from_fresh l es)) (run_follows channels users tokens before z ts y).alike
       (law l es (limits_right channels users tokens before z) (all_formed ts y)))
 
   -- from any good tables
-  pub data_tables : event_tables_data data-on → DataHeardFromTables data-on
+  pub data_tables : event_tables_data data_on → DataHeardFromTables data_on
   data_tables law d ts g y =
       let es = map as_event ts in
       let b = begun_by (view d) in
       right_alike (past b (serves (run d []) ts)) (event_past (goes (event_run d (begins b)) es)) (tables_follow b d ts g y).alike (law d (view d) es g refl (all_formed ts y))
 
   -- from an image
-  pub data_image : event_tables_data data-on → DataHeardFromImage data-on
-  data_image law = image_by (Data_heard data-on) (data_tables law)
+  pub data_image : event_tables_data data_on → DataHeardFromImage data_on
+  data_image law = image_by (HasHeardData data_on) (data_tables law)

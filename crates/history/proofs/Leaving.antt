@@ -14,7 +14,7 @@ use Rattle.domain_laws.proofs.intwo.Reports.{in_two}
 use Rattle.serve_read.proofs.Understanding.{heard_understood}
 use Rattle.provider.proofs.Room.{never_9}
 use Rattle.history.specs.Served.{event, Run, tables, served, serves}
-use Rattle.history.specs.Leaving.{Detaching, on, Equal_tables, Equal_left, Where_room, Where_ample, In_two, InTwoFromStart, InTwoFromImage}
+use Rattle.history.specs.Leaving.{Detaching, on, EqualTables, EqualLeft, WhereRoom, WhereAmple, InTwo, InTwoFromStart, InTwoFromImage}
 use Rattle.history.proofs.AsHeard.{event_formed}
 use Rattle.history.proofs.Answering.{arrives, good_sized}
 use Rattle.history.proofs.Called.{calls_run}
@@ -47,7 +47,7 @@ module _ (r : Run) (g : Good (tables r)) (p : ℕ) (whole a b : Detaching) where
   abbrev d : Domain
   d = tables r
 
-  in_room : Where_room r p whole a b (Equal_tables r p whole a b)
+  in_room : WhereRoom r p whole a b (EqualTables r p whole a b)
   unfolding serves served tables after step_settled
   in_room both fw fa fab =
       ap (λ (o : Outcome). o.domain) (is_report then_d p b)
@@ -64,15 +64,15 @@ module _ (r : Run) (g : Good (tables r)) (p : ℕ) (whole a b : Detaching) where
       first : then_d ≡ (reported d p (report d p a)).domain
       first = ap (λ (o : Outcome). o.domain) (is_report d p a)
 
-  ample : Where_ample r p whole a b (Equal_tables r p whole a b)
+  ample : WhereAmple r p whole a b (EqualTables r p whole a b)
   unfolding served tables after step_settled
   ample both hw ha hb = in_room both (never_full d p whole g hw) (never_full d p a g ha) (never_full (outcome d p a).domain p b (report_good d p a g) hb)
 
   -- what the public functions did is such a run
-  called : Equal_tables r p whole a b → Equal_left r p whole a b
+  called : EqualTables r p whole a b → EqualLeft r p whole a b
   called e q z c k = ap tables (calls_run c) ∙ e ∙ sym (ap tables (calls_run k))
 
-pub good_in_two : (r : Run) → Good (tables r) → In_two r
+pub good_in_two : (r : Run) → Good (tables r) → InTwo r
 good_in_two r g p whole a b = (
   in_room r g p whole a b,
   ample r g p whole a b,
@@ -83,7 +83,7 @@ good_in_two r g p whole a b = (
 -- ---- the tables of every run are good
 
 pub from_start : InTwoFromStart
-from_start = start_by (λ s r. In_two r) (λ channels users tokens before ts z y. good_in_two _ (run_good channels users tokens before ts z y))
+from_start = start_by (λ s r. InTwo r) (λ channels users tokens before ts z y. good_in_two _ (run_good channels users tokens before ts z y))
 
 pub from_image : InTwoFromImage
-from_image = image_by (λ s r. In_two r) (λ d ts g y. good_in_two _ (tables_good d ts g y))
+from_image = image_by (λ s r. InTwo r) (λ d ts g y. good_in_two _ (tables_good d ts g y))

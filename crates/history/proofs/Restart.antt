@@ -15,13 +15,13 @@ use Rattle.imaging.specs.Image.{image}
 use Rattle.imaging.specs.Claims.{restored}
 use Rattle.imaging.proofs.Whole.{restart}
 use Rattle.history.specs.Recorded.{Note}
-use Rattle.history.specs.Served.{Turn, event, All_bytewise, run, tables, notes, noting, served, serves}
-use Rattle.history.specs.Restart.{Unnoticed, unnoticed, CallsUnnoticed}
+use Rattle.history.specs.Served.{Turn, event, AllBytewise, run, tables, notes, noting, served, serves}
+use Rattle.history.specs.Restart.{Unnoticed, RestartUnnoticed, CallsUnnoticed}
 use Rattle.history.proofs.AsHeard.{event_formed}
 use Rattle.history.proofs.Called.{calls_run}
 
 -- what is noted says nothing of the places in the tables
-same_notes : (ts : List Turn) (d e : Domain) (ns ms : List Note) → Good d → Good e → Same d e → ns ≡ ms → All_bytewise ts → Unnoticed (serves (run d ns) ts) (serves (run e ms) ts)
+same_notes : (ts : List Turn) (d e : Domain) (ns ms : List Note) → Good d → Good e → Same d e → ns ≡ ms → AllBytewise ts → Unnoticed (serves (run d ns) ts) (serves (run e ms) ts)
 unfolding serves served tables notes after step_settled
 same_notes [] d e ns ms g h s q y = record { same_notes = q; same_tables = s }
 same_notes (t ∷ ts) d e ns ms g h s q y =
@@ -31,7 +31,7 @@ same_notes (t ∷ ts) d e ns ms g h s q y =
     (λ i. noting t.0 (step_settled (record { reply = a.reply i; domain = d; sent = a.sent i }) t.1) ∷ q i) y.1
 
 -- so of tables that were written and read again
-pub restart_unnoticed : unnoticed
+pub restart_unnoticed : RestartUnnoticed
 restart_unnoticed d before ns ts g y =
     let r = restart d before g in (
       ap (λ (x : ℕ × Domain). x.0) r.0,

@@ -20,22 +20,22 @@ use Rattle.codec_octets.specs.Octets.{Bytes}
 use Rattle.imaging.specs.Claims.{restored, start_of}
 use Rattle.imaging.proofs.Whole.{reads_zero}
 use Rattle.history.specs.Recorded.{read}
-use Rattle.history.specs.Served.{Turn, All_bytewise, run, tables, notes, serves, started}
+use Rattle.history.specs.Served.{Turn, AllBytewise, run, tables, notes, serves, started}
 use Rattle.history.specs.Always.{GoodTables, GoodAfterImage}
 use Rattle.history.proofs.Follows.{as_event, all_formed, Follows, follows}
 
 -- from any good tables, on anything that history begins with
-pub tables_follow : (s : Start) (d : Domain) (ts : List Turn) → Good d → All_bytewise ts → Follows s (serves (run d []) ts) (goes (event_run d (begins s)) (map as_event ts))
+pub tables_follow : (s : Start) (d : Domain) (ts : List Turn) → Good d → AllBytewise ts → Follows s (serves (run d []) ts) (goes (event_run d (begins s)) (map as_event ts))
 unfolding tables notes read
 tables_follow s d ts g y = follows s ts (run d []) (begins s) g refl y
 
 -- whose tables stay good
-pub tables_good : (d : Domain) (ts : List Turn) → Good d → All_bytewise ts → Good (tables (serves (run d []) ts))
+pub tables_good : (d : Domain) (ts : List Turn) → Good d → AllBytewise ts → Good (tables (serves (run d []) ts))
 unfolding now
 tables_good d ts g y = rw (tables_follow nothing_yet d ts g y).same_tables (good_goes (map as_event ts) (event_run d (begins nothing_yet)) (all_formed ts y) g)
 
 -- from a fresh domain
-fresh_follows : (l : Limits) (ts : List Turn) → So (in_range l) → All_bytewise ts → Follows nothing_yet (serves (run (fresh l) []) ts) (from_fresh l (map as_event ts))
+fresh_follows : (l : Limits) (ts : List Turn) → So (in_range l) → AllBytewise ts → Follows nothing_yet (serves (run (fresh l) []) ts) (from_fresh l (map as_event ts))
 unfolding from_fresh
 fresh_follows l ts i y = tables_follow nothing_yet (fresh l) ts (fresh_good l i) y
 
@@ -58,7 +58,7 @@ module _ (channels users tokens : ℕ) (before : Domain) (z : (begun channels us
   pub limits_right : So (in_range (limited channels users tokens))
   limits_right = begun_fresh.0
 
-  module _ (ts : List Turn) (y : All_bytewise ts) where
+  module _ (ts : List Turn) (y : AllBytewise ts) where
     -- turn by turn
     pub run_follows : Follows nothing_yet (serves (started channels users tokens before) ts) (from_fresh (limited channels users tokens) (map as_event ts))
     run_follows = rw begun_fresh.1 (fresh_follows (limited channels users tokens) ts limits_right y)

@@ -31,25 +31,25 @@ Legible (reads m) = formed m ≡ true
 Legible (refuses n os) = Bytes os
 
 -- an event that brings no other
-abbrev pub Comes_legible : Event → Type 0
-Comes_legible (opens p) = Unit {0}
-Comes_legible (loses p) = Unit {0}
-Comes_legible (hears p m) = Legible m
+abbrev pub ComesLegible : Event → Type 0
+ComesLegible (opens p) = Unit {0}
+ComesLegible (loses p) = Unit {0}
+ComesLegible (hears p m) = Legible m
 
 module _ (d : Domain) (s : Sound d) where
   -- ---- a request, by its message; `new` is the id of a new user or channel
-  module _ (new : ℕ) (fresh-id : User new) where
+  module _ (new : ℕ) (fresh_id : User new) where
     -- each message; those that may not go up are ignored
     act_told : (p : ℕ) (m : Message) → formed m ≡ true → Told (act new d p m)
     unfolding act
     act_told p (EDrq h i) f = tt
     act_told p (DPum n) f = close_told d s p
     act_told p (RJum n os) f = close_told d s p
-    act_told p AUrq f = told_within (put_both d) _ (attach_told new fresh-id (users_full d) (channels_full d) d.users d.channels p)
+    act_told p AUrq f = told_within (put_both d) _ (attach_told new fresh_id (users_full d) (channels_full d) d.users d.channels p)
     act_told p (DUrq n vs) f = let r = ranges (DUrq n vs) f in detach_told d s p n vs r.0.most r.1.few
-    act_told p (CJrq u c) f = let r = ranges (CJrq u c) f in told_within (put_channels d) _ (join_told new fresh-id (channels_full d) d.users d.channels p u r.0 c r.1)
+    act_told p (CJrq u c) f = let r = ranges (CJrq u c) f in told_within (put_channels d) _ (join_told new fresh_id (channels_full d) d.users d.channels p u r.0 c r.1)
     act_told p (CLrq cs) f = told_within (put_channels d) _ (leave_channels_told d.channels p cs)
-    act_told p (CCrq u) f = told_within (put_channels d) _ (convene_told new fresh-id (channels_full d) d.users d.channels p u (ranges (CCrq u) f))
+    act_told p (CCrq u) f = told_within (put_channels d) _ (convene_told new fresh_id (channels_full d) d.users d.channels p u (ranges (CCrq u) f))
     act_told p (CDrq u c) f = told_within (put_channels d) _ (disband_told d.users d.channels p u c (ranges (CDrq u c) f).1)
     act_told p (CArq u c vs) f = let r = ranges (CArq u c vs) f in told_within (put_channels d) _ (admit_told d s p u c vs r.2.few r.1 r.0)
     act_told p (CErq u c vs) f = let r = ranges (CErq u c vs) f in told_within (put_channels d) _ (expel_told d s p u c vs r.2.few r.1)
@@ -97,15 +97,15 @@ module _ (d : Domain) (s : Sound d) where
   complaint_readable n p os y =
       all_either (eqb n 5) _ _ (RJum_readable _ os (omega arith) y, tt) (all_either (eqb n 6) _ _ (RJum_readable _ os (omega arith) y, tt) tt)
 
-  module _ (fresh-id : User (grant d.channels)) where
+  module _ (fresh_id : User (grant d.channels)) where
     -- a message, or a refusal
     answers_readable : (p : ℕ) (m : Reading) (room : ℕ) → Legible m → Readables (answers (grant d.channels) d p m room).sent
     unfolding answers
-    answers_readable p (reads m) room l = ends_readable room _ (act_told (grant d.channels) fresh-id p m l)
+    answers_readable p (reads m) room l = ends_readable room _ (act_told (grant d.channels) fresh_id p m l)
     answers_readable p (refuses n os) room l = sends_readable room n d (complaint n p os) (complaint_readable n p os l)
 
     -- every event, with any room
-    pub sent_readable : (e : Event) (room : ℕ) → Comes_legible e → Readables (step d e room).sent
+    pub sent_readable : (e : Event) (room : ℕ) → ComesLegible e → Readables (step d e room).sent
     unfolding step step_with
     sent_readable (opens p) room l = go (ltb 15 p) (has d.links p)
       where

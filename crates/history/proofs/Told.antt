@@ -119,24 +119,24 @@ release_small (Giving g r) u = either_small (eqb g u) _ _ tt (omega arith)
 release_small (Given r) u = omega arith
 
 -- ---- requests about channels
-module _ (new : ℕ) (fresh-id : User new) where
+module _ (new : ℕ) (fresh_id : User new) where
   -- an id for a user is one for a channel
   new_channel : Channel new
-  new_channel = record { least = zero-le; most = fresh-id.most }
+  new_channel = record { least = zero-le; most = fresh_id.most }
 
   -- AUrq: AUcf
   pub attach_told : (f g : Bool) (us : Names) (cs : Channels) (p : ℕ) → Told (attach new f g us cs p)
   unfolding attach
   attach_told f g us cs p =
       told_either f _ _ (AUcf_readable _ (omega arith) none tt, tt)
-      (told_either g _ _ (AUcf_readable _ (omega arith) none tt, tt) (AUcf_readable _ (omega arith) (some new) fresh-id, tt))
+      (told_either g _ _ (AUcf_readable _ (omega arith) none tt, tt) (AUcf_readable _ (omega arith) (some new) fresh_id, tt))
 
   module _ (full : Bool) (us : Names) (cs : Channels) (p u : ℕ) (user : User u) where
     -- CCrq: CCcf
     pub convene_told : Told (convene new full us cs p u)
     unfolding convene
     convene_told = told_from us p u _ λ i.
-        told_either full _ _ (CCcf_readable _ (omega arith) u user none tt, tt) (CCcf_readable _ (omega arith) u user (some new) fresh-id, tt)
+        told_either full _ _ (CCcf_readable _ (omega arith) u user none tt, tt) (CCcf_readable _ (omega arith) u user (some new) fresh_id, tt)
 
     module _ (c : ℕ) (asked : Channel c) where
       -- CJrq for a channel in use: CJcf

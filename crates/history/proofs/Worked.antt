@@ -2,7 +2,7 @@
 use mathlib.Core.Path.{◌≡◌, refl}
 use mathlib.Core.Option.{Option, none, some}
 use Prim.Native.Nat.{ℕ}
-use Rattle.domain.specs.History.{nothing_yet, home, Gain, nothing, by-grab, gain}
+use Rattle.domain.specs.History.{nothing_yet, home, Gain, nothing, by_grab, gain}
 use Rattle.domain.proofs.Opened.{opened}
 use Rattle.domain.specs.Outcomes.{step_settled, after, begun}
 use Rattle.serve_read.specs.Understood.{number_in, read_as, understood}
@@ -16,7 +16,7 @@ unfolding opened number_in read_as understood step_settled after begun event tab
 as_noted = refl
 
 -- 1001 is attached on 2 and holds token 1 until the loss
-pub grabbed : ◌≡◌ {A = Option ℕ × Gain} (home (read nothing_yet held_notes) 1001, gain (read nothing_yet held_notes) 1 1001) (some 2, by-grab)
+pub grabbed : ◌≡◌ {A = Option ℕ × Gain} (home (read nothing_yet held_notes) 1001, gain (read nothing_yet held_notes) 1 1001) (some 2, by_grab)
 unfolding opened read_as read_call size is_record inside carried read_some read_records read_note read attaching grabbing held_notes
 grabbed = refl
 

@@ -9,7 +9,7 @@ use Rattle.domain.specs.Outcomes.{begun, after}
 use Rattle.codec_octets.specs.Octets.{Bytes}
 use Rattle.imaging.specs.Claims.{restored}
 use Rattle.history.specs.Recorded.{Call, opening, losing, message}
-use Rattle.history.specs.Served.{event, Turn, Bytewise, All_bytewise, run, tables, noted, serves, started}
+use Rattle.history.specs.Served.{event, Turn, Bytewise, AllBytewise, run, tables, noted, serves, started}
 
 -- what is sent with a reply other than 0: nothing, or with 5 and 6 the one RJum
 unfoldable pub refusal : Call → ℕ → List Sent
@@ -36,20 +36,20 @@ Demand1 = (d : Domain) (c : Call) (out : List ℕ) → Always d c out (after d (
 module _ (channels users tokens : ℕ) (before : Domain) (ts : List Turn) where
   -- the tables are good after every run
   abbrev pub GoodTables : Type 0
-  GoodTables = (begun channels users tokens before).0 ≡ 0 → All_bytewise ts → Good (tables (serves (started channels users tokens before) ts))
+  GoodTables = (begun channels users tokens before).0 ≡ 0 → AllBytewise ts → Good (tables (serves (started channels users tokens before) ts))
 
   -- "A buffer of 17,200 octets never meets 9"
   abbrev pub RoomEnough : Type 0
   RoomEnough =
-      (begun channels users tokens before).0 ≡ 0 → All_bytewise ts
+      (begun channels users tokens before).0 ≡ 0 → AllBytewise ts
       → (t : Turn) → Bytewise t.0 → 17200 ≤ length t.1 → (noted (serves (started channels users tokens before) ts) t).reply ≡ 9 → ⊥
 
 -- the same from the tables that are read from an image with reply 0
 module _ (image : List ℕ) (before : Domain) (ts : List Turn) where
   abbrev pub GoodAfterImage : Type 0
-  GoodAfterImage = (restored image before).0 ≡ 0 → Bytes image → All_bytewise ts → Good (tables (serves (run (restored image before).1 []) ts))
+  GoodAfterImage = (restored image before).0 ≡ 0 → Bytes image → AllBytewise ts → Good (tables (serves (run (restored image before).1 []) ts))
 
   abbrev pub EnoughAfterImage : Type 0
   EnoughAfterImage =
-      (restored image before).0 ≡ 0 → Bytes image → All_bytewise ts
+      (restored image before).0 ≡ 0 → Bytes image → AllBytewise ts
       → (t : Turn) → Bytewise t.0 → 17200 ≤ length t.1 → (noted (serves (run (restored image before).1 []) ts) t).reply ≡ 9 → ⊥

@@ -3,9 +3,9 @@ use Rattle.std.specs.Prelude.{ℕ}
 use Rattle.std.proofs.Math.Option.{Option}
 use Rattle.codec_table.specs.Named.{Message}
 use Rattle.domain.specs.History.{Start}
-use Rattle.domain.specs.Hearers.{Hearing, Data_right}
+use Rattle.domain.specs.Hearers.{Hearing, DataRight}
 use Rattle.history.specs.Served.{Run, tables}
-use Rattle.history.specs.Begins.{From_start, From_tables, From_image}
+use Rattle.history.specs.Begins.{FromStart, FromTables, FromImage}
 use Rattle.history.specs.Claims.{past}
 
 -- ---- who could have heard
@@ -16,31 +16,31 @@ Heard s r = Hearing (past s r) (tables r)
 
 -- of every start that is answered 0
 abbrev pub WhoHeard : Type 0
-WhoHeard = From_start Heard
+WhoHeard = FromStart Heard
 
 -- of all good tables
 abbrev pub WhoHeardFromTables : Type 0
-WhoHeardFromTables = From_tables Heard
+WhoHeardFromTables = FromTables Heard
 
 -- of every image that is read with reply 0
 abbrev pub WhoHeardFromImage : Type 0
-WhoHeardFromImage = From_image Heard
+WhoHeardFromImage = FromImage Heard
 
--- ---- with T-01, where data went; `data-on` is to give the channel of SDin and USin
+-- ---- with T-01, where data went; `data_on` is to give the channel of SDin and USin
 
-module _ (data-on : (Message → Option ℕ)) where
+module _ (data_on : (Message → Option ℕ)) where
   -- of a run: in each event, data on a channel that is private by the history went only to connections that could have heard
-  abbrev pub Data_heard : Start → Run → Type 0
-  Data_heard s r = Data_right data-on (past s r)
+  abbrev pub HasHeardData : Start → Run → Type 0
+  HasHeardData s r = DataRight data_on (past s r)
 
   -- of every start that is answered 0
   abbrev pub DataHeard : Type 0
-  DataHeard = From_start Data_heard
+  DataHeard = FromStart HasHeardData
 
   -- of all good tables
   abbrev pub DataHeardFromTables : Type 0
-  DataHeardFromTables = From_tables Data_heard
+  DataHeardFromTables = FromTables HasHeardData
 
   -- of every image that is read with reply 0
   abbrev pub DataHeardFromImage : Type 0
-  DataHeardFromImage = From_image Data_heard
+  DataHeardFromImage = FromImage HasHeardData

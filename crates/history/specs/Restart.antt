@@ -7,7 +7,7 @@ use Rattle.domain_laws.specs.View.{view}
 use Rattle.imaging.specs.Image.{image}
 use Rattle.imaging.specs.Claims.{restored}
 use Rattle.history.specs.Recorded.{Note}
-use Rattle.history.specs.Served.{Turn, All_bytewise, Run, run, tables, notes, serves, Calls}
+use Rattle.history.specs.Served.{Turn, AllBytewise, Run, run, tables, notes, serves, Calls}
 
 -- two runs with the same notes, and tables that say the same
 pub record Unnoticed (q r : Run) : Type 0 where
@@ -15,13 +15,13 @@ pub record Unnoticed (q r : Run) : Type 0 where
   pub same_tables : Same (tables q) (tables r)
 
 -- any good tables d, stopped and started again with whatever stood there before, and any calls from then on
-abbrev pub unnoticed : Type 0
-unnoticed =
-    (d before : Domain) (ns : List Note) (ts : List Turn) → Good d → All_bytewise ts
+abbrev pub RestartUnnoticed : Type 0
+RestartUnnoticed =
+    (d before : Domain) (ns : List Note) (ts : List Turn) → Good d → AllBytewise ts
     → ((restored (image (view d)) before).0 ≡ 0) × Unnoticed (serves (run (restored (image (view d)) before).1 ns) ts) (serves (run d ns) ts)
 
 -- the same of what the public functions did, from the tables that reading left with reply 0 and from those that were not stopped
 abbrev pub CallsUnnoticed : Type 0
 CallsUnnoticed =
-    (d e before : Domain) (ns : List Note) (ts : List Turn) → Good d → All_bytewise ts → ◌≡◌ {A = ℕ × Domain} (0, e) (restored (image (view d)) before)
+    (d e before : Domain) (ns : List Note) (ts : List Turn) → Good d → AllBytewise ts → ◌≡◌ {A = ℕ × Domain} (0, e) (restored (image (view d)) before)
     → (q r : Run) → Calls (run e ns) ts q → Calls (run d ns) ts r → Unnoticed q r

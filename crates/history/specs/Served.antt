@@ -26,9 +26,9 @@ Bytewise (losing p) = Unit {0}
 Bytewise (message p os) = Bytes os
 
 -- of every turn
-abbrev pub All_bytewise : List Turn → Type 0
-All_bytewise [] = Unit {0}
-All_bytewise (t ∷ ts) = Bytewise t.0 × All_bytewise ts
+abbrev pub AllBytewise : List Turn → Type 0
+AllBytewise [] = Unit {0}
+AllBytewise (t ∷ ts) = Bytewise t.0 × AllBytewise ts
 
 -- the tables, and what was noted, the last first
 pub data Run : Type 0 where

@@ -10,7 +10,7 @@ use lib.ListN.{length, get_or}
 use borrow.Author.Tests.{eq-eqb, not-true}
 use Rattle.cols_spec.specs.Places.{Place, At, Nowhere, find, in_order}
 use Rattle.cols_spec.specs.Sets.{any, each, member}
-use Rattle.cols_spec.proofs.Answers.{found-somewhere}
+use Rattle.cols_spec.proofs.Answers.{found_somewhere}
 use Rattle.cols_spec.proofs.Bools.{and_parts, none≢some}
 use Rattle.cols_spec.proofs.Marks.{has_low}
 use Rattle.cols_spec.proofs.Members.{member_keep}
@@ -22,7 +22,7 @@ use Rattle.domain.specs.declared.token.Holding.{Holding}
 use Rattle.domain.specs.declared.token.Holding.TheVariants.{Free, Grabbed, Inhibited, Giving, Given}
 use Rattle.domain.specs.Cells.{kind}
 use Rattle.domain.specs.Tables.{Users, Domain, name, link, channel, state, is_free, seen}
-use Rattle.domain_laws.specs.Same.{home_of, among, ids_of, Role, static, user-id, assigned, private_of, role_of, channel_at, Standing, nobody, grabbed, inhibited, giving, given, standing, token_at}
+use Rattle.domain_laws.specs.Same.{home_of, among, ids_of, Role, static, user_id, assigned, private_of, role_of, channel_at, Standing, nobody, grabbed, inhibited, giving, given, standing, token_at}
 use Rattle.domain_laws.specs.View.{row, view}
 use Rattle.domain.proofs.invariant.Sound.{Seated, Held, UserRow, Sound}
 use Rattle.domain.proofs.invariant.Held.{state_held}
@@ -65,7 +65,7 @@ pub record Ids (n : ℕ) (is : List ℕ) : Type 0 where
 -- what a channel's row names: ids in two octets, and at most n users admitted
 abbrev pub RoleOf : ℕ → Role → Type 0
 RoleOf n static = Unit {0}
-RoleOf n user-id = Unit {0}
+RoleOf n user_id = Unit {0}
 RoleOf n (private_of g is) = FitsTwo g × Ids n is
 RoleOf n assigned = Unit {0}
 
@@ -84,7 +84,7 @@ module _ (n : ℕ) (l : n ≤ 64) where
 
   pub role_wider : (k : Role) → RoleOf n k → RoleOf 64 k
   role_wider static h = h
-  role_wider user-id h = h
+  role_wider user_id h = h
   role_wider (private_of g is) h = (h.0, ids_wider is h.1)
   role_wider assigned h = h
 
@@ -111,7 +111,7 @@ module _ (d : Domain) (s : Sound d) where
   user_row_of u i e = let r = find_holds us.ids u i e in rw r.0 at (s.users_are.rows i (rw r.0 r.2))
 
   user_short : (u : ℕ) → member u (in_order us.ids) ≡ true → FitsTwo u
-  user_short u h = let w = found-somewhere (find us.ids u) (in_order_found us.ids u h) in omega (arith, (user_row_of u w.0 w.1).high)
+  user_short u h = let w = found_somewhere (find us.ids u) (in_order_found us.ids u h) in omega (arith, (user_row_of u w.0 w.1).high)
 
   name_short : (g : ℕ) → Seated us g → FitsTwo (name us g)
   unfolding name
@@ -161,7 +161,7 @@ module _ (d : Domain) (s : Sound d) where
   pub tokens_fit : All (λ (r : ℕ × Standing). FitsTwo r.0 × StandingOf crowd r.1) (view d).tokens
   unfolding view token_at
   tokens_fit = all_rows (λ r. FitsTwo r.0 × StandingOf crowd r.1) (λ k. some (token_at us d.tokens k)) (in_order d.tokens.ids) (λ k m a e.
-      let w = found-somewhere (find d.tokens.ids k) (in_order_found d.tokens.ids k m) in
+      let w = found_somewhere (find d.tokens.ids k) (in_order_found d.tokens.ids k m) in
       let h = find_holds d.tokens.ids k w.0 w.1 in
       let z : standing us (state d.tokens k) ≡ a = cc in
       rw (← z) (

@@ -10,7 +10,7 @@ use lib.Dec.{leb}
 use borrow.Author.Tests.{leb-true}
 use Rattle.cols_spec.specs.Sets.{each, listed}
 use Rattle.domain.specs.Tables.{Domain, in_range}
-use Rattle.domain_laws.specs.Same.{Role, static, user-id, assigned, private_of, Standing, nobody, grabbed, inhibited, giving, given}
+use Rattle.domain_laws.specs.Same.{Role, static, user_id, assigned, private_of, Standing, nobody, grabbed, inhibited, giving, given}
 use Rattle.domain_laws.specs.View.{view}
 use Rattle.domain.proofs.invariant.Sound.{Sound, limits_le}
 use Rattle.domain_laws.proofs.restored.Again.{users_few}
@@ -51,7 +51,7 @@ ids_bytes is h = rows_bytes two is (omega (arith, h.few)) (all_of two_bytes is h
 role_bytes : (k : Role) → RoleOf 64 k → (kind_number k < 256) × Bytes (club k)
 unfolding kind_number club
 role_bytes static h = (omega arith, tt)
-role_bytes user-id h = (omega arith, tt)
+role_bytes user_id h = (omega arith, tt)
 role_bytes (private_of g is) h = (omega arith, bytes_append (two g) (rows two is) (two_bytes g h.0) (ids_bytes is h.1))
 role_bytes assigned h = (omega arith, tt)
 

@@ -8,7 +8,7 @@ use Rattle.codec_octets.proofs.OctetLaws.{refused, followed, needed, go_on}
 use Rattle.cols_spec.specs.Sets.{all, listed, those, member}
 use Rattle.domain.specs.declared.Limits.{Limits}
 use Rattle.domain.specs.Outcomes.{limited}
-use Rattle.domain_laws.specs.Same.{Role, static, user-id, assigned, private_of, Standing, nobody, grabbed, inhibited, giving, given}
+use Rattle.domain_laws.specs.Same.{Role, static, user_id, assigned, private_of, Standing, nobody, grabbed, inhibited, giving, given}
 use Rattle.domain_laws.specs.View.{View}
 use Rattle.imaging.specs.Image.{two, user_row, kind_number, club, channel_row, state_number, parties, token_row, limit_octets, link_rows, contents}
 use Rattle.imaging.specs.Reading.{read_rows, read_user, read_club, read_channel, read_parties, read_token, read_limits, upward, read_links, read_contents}
@@ -34,7 +34,7 @@ user_code = whole (rest_part _ (λ r. r.0) _ two_code (λ r h. h) (rest_last _ (
 -- the ids of a private channel fit two octets
 abbrev pub FitsRole : Role → Type 0
 FitsRole static = Unit {0}
-FitsRole user-id = Unit {0}
+FitsRole user_id = Unit {0}
 FitsRole (private_of g is) = FitsTwo g × All FitsTwo is
 FitsRole assigned = Unit {0}
 
@@ -49,7 +49,7 @@ club_rest = record { back = back; only = only }
   where
     back : (r : Role) → FitsRole r → (os : List ℕ) → read_club (kind_number r) (club r ++ os) ≡ got r os
     back static h os = refl
-    back user-id h os = refl
+    back user_id h os = refl
     back (private_of g is) h os = two_back two_code (rows_code two_code) private_of g is h.0 h.1 os
     back assigned h os = refl
 

@@ -12,13 +12,13 @@ use lib.ListN.{length, get_or, length-append}
 use borrow.Author.Tests.{eq-eqb, eqb-true, eqb-false, lt-ltb}
 use Rattle.cols_spec.specs.Places.{At, find, in_order}
 use Rattle.cols_spec.specs.Sets.{keep, any, each, has, member, listed, below, upto}
-use Rattle.cols_spec.proofs.Answers.{found-somewhere}
+use Rattle.cols_spec.proofs.Answers.{found_somewhere}
 use Rattle.cols_spec.proofs.Bools.{and_parts, and_both, or_elim}
 use Rattle.cols_spec.proofs.Members.{member_keep, member_at}
 use Rattle.cols_spec.proofs.Order.{keep_le, in_order_has}
 use Rattle.cols_spec.proofs.Rows.{find_holds, find_there}
 use Rattle.domain.specs.Tables.{Domain, channel}
-use Rattle.domain_laws.specs.Same.{Role, static, user-id, assigned, private_of, role_of, channel_at, Standing, nobody, grabbed, inhibited, giving, given}
+use Rattle.domain_laws.specs.Same.{Role, static, user_id, assigned, private_of, role_of, channel_at, Standing, nobody, grabbed, inhibited, giving, given}
 use Rattle.domain_laws.specs.View.{row, view}
 use Rattle.domain_laws.specs.Built.{ascending}
 use Rattle.domain.proofs.invariant.Sound.{Sound}
@@ -73,7 +73,7 @@ ids_length n is h = omega (arith, each_length two 2 is (any_of (λ a. omega arit
 
 is_user_id : Role → Bool
 is_user_id static = false
-is_user_id user-id = true
+is_user_id user_id = true
 is_user_id (private_of g is) = false
 is_user_id assigned = false
 
@@ -104,7 +104,7 @@ rows_kept f (x ∷ xs) = go (f x) (rows_kept f xs)
 row_length : (n : ℕ) (c : ℕ) (k : Role) (m : ℕ) → RoleOf n k → length (channel_row (c, (k, m))) + (if is_user_id k then 3 + 2 * n else 0) ≤ 8 + 2 * n
 unfolding channel_row club is_user_id
 row_length n c static m h = omega arith
-row_length n c user-id m h = omega arith
+row_length n c user_id m h = omega arith
 row_length n c (private_of g is) m h = omega (arith, ids_length n is h.1)
 row_length n c assigned m h = omega arith
 
@@ -147,7 +147,7 @@ module _ (d : Domain) (s : Sound d) where
   own_channel : (u : ℕ) → member u (in_order d.users.ids) ≡ true → (its_user (channel_at d.users d.channels u) && member u (in_order d.channels.ids)) ≡ true
   unfolding channel_at channel role_of is_user_id its_user
   own_channel u m =
-      let w = found-somewhere (find d.users.ids u) (in_order_found d.users.ids u m) in
+      let w = found_somewhere (find d.users.ids u) (in_order_found d.users.ids u m) in
       let r = user_row_of d s u w.0 w.1 in
       let o = r.owned in
       let pos : 0 < get_or d.channels.ids o.spot 0 = omega (arith, o.id_is, r.low) in

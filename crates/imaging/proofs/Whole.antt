@@ -1,4 +1,4 @@
--- Reading takes exactly the images of good tables; equal images are those of tables that say the same; and what the replies are. Assumes nothing.
+-- Reading takes exactly the Images of good tables; equal Images are those of tables that say the same; and what the replies are. Assumes nothing.
 use Rattle.std.specs.Prelude.{if◌then◌else◌}
 use mathlib.Core.Path.{◌≡◌, refl, sym, ap, ap₂, ◌∙◌}
 use mathlib.Core.Bool.{Bool, true, false, ◌&&◌, So, true≢false, and-false}
@@ -16,7 +16,7 @@ use Rattle.cols_spec.proofs.Bools.{some_is, none≢some}
 use Rattle.domain.specs.Tables.{Domain, in_range}
 use Rattle.domain.specs.Effects.{settled}
 use Rattle.domain.specs.Good.{Good}
-use Rattle.domain_laws.specs.Same.{Role, static, user-id, assigned, private_of, Standing, nobody, grabbed, inhibited, giving, given}
+use Rattle.domain_laws.specs.Same.{Role, static, user_id, assigned, private_of, Standing, nobody, grabbed, inhibited, giving, given}
 use Rattle.domain_laws.specs.View.{View, view}
 use Rattle.domain_laws.specs.Built.{built, takes}
 use Rattle.domain.proofs.invariant.Sound.{Sound}
@@ -27,7 +27,7 @@ use Rattle.domain_laws.proofs.restored.Restored.{restored as restored_again}
 use Rattle.domain_laws.proofs.restored.Taken.{taken}
 use Rattle.imaging.specs.Image.{limit_octets, contents, body, image, written}
 use Rattle.imaging.specs.Reading.{read_contents, read_body, nothing_over, behind_length, read_image, limits_out}
-use Rattle.imaging.specs.Claims.{Image, ReadExactly, images, EqualImages, Reads, out, bad, made_or, restored, OneReading, Replies, RepliesExactly, restarts, said_by, start_of, Writes, WriteExactly}
+use Rattle.imaging.specs.Claims.{Image, ReadExactly, Images, EqualImages, Reads, out, bad, made_or, restored, OneReading, Replies, RepliesExactly, Restarts, said_by, start_of, Writes, WriteExactly}
 use Rattle.imaging.specs.Claims
 use Rattle.imaging.proofs.Parts.{all_of, number_code, octet_code}
 use Rattle.imaging.proofs.Rows.{FitsRole, FitsStanding, FitsView, contents_code}
@@ -39,7 +39,7 @@ use Rattle.imaging.proofs.Octets.{image_bytes}
 
 role_fit : (n : ℕ) (k : Role) → RoleOf n k → FitsRole k
 role_fit n static h = tt
-role_fit n user-id h = tt
+role_fit n user_id h = tt
 role_fit n (private_of g is) h = (h.0, h.1.short)
 role_fit n assigned h = tt
 
@@ -116,9 +116,9 @@ read_only os v b e = go (number 4 os) refl e
 pub read_image_exactly : ReadExactly
 read_image_exactly = (λ os v i. rw i.octets (read_back v i.rules), read_only)
 
--- ---- images of good tables
+-- ---- Images of good tables
 
-pub all_images : images
+pub all_images : Images
 all_images d g = record {
   is_image = record { rules = taken.1 d g; octets = refl };
   bytes = image_bytes d (good_sound d g);
@@ -196,7 +196,7 @@ replied os before r (bad l n) = record {
 pub reply_exactly : RepliesExactly
 reply_exactly os before b = replied os before (restored os before) (reads os before b)
 
-pub restart : restarts
+pub restart : Restarts
 unfolding restored made_or
 restart d before g =
     let i = (all_images d g).is_image in

@@ -12,7 +12,7 @@ use Rattle.domain.proofs.Sending.{all_append}
 use Rattle.domain.specs.Tables.{fresh}
 use Rattle.domain.specs.Outcomes.{limited}
 use Rattle.domain.specs.Good.{good}
-use Rattle.domain_laws.specs.Same.{Role, user-id, private_of, Standing, inhibited, home_of, among, ids_of, role_of, channel_at, standing, token_at}
+use Rattle.domain_laws.specs.Same.{Role, user_id, private_of, Standing, inhibited, home_of, among, ids_of, role_of, channel_at, standing, token_at}
 use Rattle.domain_laws.specs.View.{view}
 use Rattle.domain_laws.specs.Built.{padded, users_built, place, kind_built, channels_built, holding_built, tokens_built, built, ascending, is_there, are_there, role_proper, standing_proper, proper, takes}
 use Rattle.domain.proofs.Opened.{opened}
@@ -81,7 +81,7 @@ standing_there r = standing_proper (users_built largest.users) r.1
 largest_roles : all role_there largest.channels ≡ true
 unfolding largest role_proper
 largest_roles =
-    all_append role_there _ _ (all_made role_there (λ u. (u, (user-id, 0))) (λ u. refl) all_users)
+    all_append role_there _ _ (all_made role_there (λ u. (u, (user_id, 0))) (λ u. refl) all_users)
     (all_made role_there (λ k. (2001 + k, (private_of 1001 all_users, 0))) (λ k. and_both largest_manager largest_there) (below 64))
 
 largest_standings : all standing_there largest.tokens ≡ true

@@ -1,4 +1,4 @@
--- T-02: what is claimed of images.
+-- T-02: what is claimed of Images.
 use Rattle.std.specs.Prelude.{ℕ, ◌≤◌, ◌<◌, ◌≡◌, ◌↔◌, false, List, length, take, drop, if◌then◌else◌}
 use Rattle.std.proofs.Math.Bool.{So}
 use Rattle.std.proofs.Math.Option.{Option, none, some}
@@ -30,20 +30,20 @@ pub record Imaged (d : Domain) : Type 0 where
   pub size : length (image (view d)) ≤ 17692
 
 -- every good domain has such an image
-abbrev pub images : Type 0
-images = (d : Domain) → Good d → Imaged d
+abbrev pub Images : Type 0
+Images = (d : Domain) → Good d → Imaged d
 
 -- and some good domain's image has as many octets
 abbrev pub BoundMet : Type 0
 BoundMet = (d : Domain) × Good d × (length (image (view d)) ≡ 17692)
 
--- "Equal tables have equal images and the reverse"
+-- "Equal tables have equal Images and the reverse"
 abbrev pub EqualImages : Type 0
 EqualImages = (d e : Domain) → Good d → Good e → (Same d e → image (view d) ≡ image (view e)) × (image (view d) ≡ image (view e) → Same d e)
 
 -- ---- reading: the reply, and the tables
 
--- "Reading takes exactly images whose tables keep document 01's rules"; "10 where a known version's limits can be read and one is out of range, else 12, bad
+-- "Reading takes exactly Images whose tables keep document 01's rules"; "10 where a known version's limits can be read and one is out of range, else 12, bad
 -- image; no domain is made"
 pub data Reads (os : List ℕ) (before : Domain) : ℕ × Domain → Type 0 where
   taken : (v : View) → Image os v → Reads os before (0, built v)
@@ -76,8 +76,8 @@ abbrev pub RepliesExactly : Type 0
 RepliesExactly = (os : List ℕ) (before : Domain) → Bytes os → Replies os (restored os before).0
 
 -- what was written is read again: tables that are good, and say the same (domain, Built.restores)
-abbrev pub restarts : Type 0
-restarts = (d before : Domain) → Good d → (restored (image (view d)) before ≡ (0, built (view d))) × Restored d
+abbrev pub Restarts : Type 0
+Restarts = (d before : Domain) → Good d → (restored (image (view d)) before ≡ (0, built (view d))) × Restored d
 
 -- what history begins with, by the lists that were read; with nothing where none were
 unfoldable pub said_by : Option View → Start

@@ -2,7 +2,7 @@
 use Rattle.std.specs.Prelude.{ℕ, ◌+◌, ◌-◌, ◌^◌, List, [], ◌∷◌, ◌++◌, map}
 use Rattle.cols_spec.specs.Sets.{below}
 use Rattle.domain.specs.Outcomes.{limited}
-use Rattle.domain_laws.specs.Same.{static, user-id, private_of, inhibited}
+use Rattle.domain_laws.specs.Same.{static, user_id, private_of, inhibited}
 use Rattle.domain_laws.specs.View.{View}
 
 -- `00000008 01 804040 00 00 00 00`
@@ -31,7 +31,7 @@ largest = record {
   limits = limited 128 64 64;
   links = 2 ^ 16 - 1;
   users = map (λ u. (u, 0)) all_users;
-  channels = map (λ u. (u, (user-id, 0))) all_users ++ map (λ k. (2001 + k, (private_of 1001 all_users, 0))) (below 64);
+  channels = map (λ u. (u, (user_id, 0))) all_users ++ map (λ k. (2001 + k, (private_of 1001 all_users, 0))) (below 64);
   tokens = map (λ k. (1 + k, inhibited all_users)) (below 64);
 }
 

@@ -6,7 +6,7 @@ use Rattle.cols_spec.specs.Sets.{each, listed, connections}
 use Rattle.domain.specs.declared.Limits.{Limits}
 use Rattle.domain.specs.Effects.{Settled, settled}
 use Rattle.domain.specs.Tables.{Domain}
-use Rattle.domain_laws.specs.Same.{Role, static, user-id, assigned, private_of, Standing, nobody, grabbed, inhibited, giving, given}
+use Rattle.domain_laws.specs.Same.{Role, static, user_id, assigned, private_of, Standing, nobody, grabbed, inhibited, giving, given}
 use Rattle.domain_laws.specs.View.{View, view}
 
 -- a count, a kind, a state, a limit or a connection: one octet
@@ -30,14 +30,14 @@ user_row r = two r.0 ++ one r.1
 -- 0 static, 1 user id, 2 private, 3 assigned
 unfoldable pub kind_number : Role → ℕ
 kind_number static = 0
-kind_number user-id = 1
+kind_number user_id = 1
 kind_number (private_of g is) = 2
 kind_number assigned = 3
 
 -- of a private channel its manager, then the users admitted; of other kinds nothing
 unfoldable pub club : Role → List ℕ
 club static = []
-club user-id = []
+club user_id = []
 club (private_of g is) = two g ++ rows two is
 club assigned = []
 

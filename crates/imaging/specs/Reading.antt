@@ -6,7 +6,7 @@ use Rattle.cols_spec.specs.Sets.{all, member, those, connections}
 use Rattle.domain.specs.declared.Limits.{Limits}
 use Rattle.domain.specs.Tables.{in_range}
 use Rattle.domain.specs.Outcomes.{limited}
-use Rattle.domain_laws.specs.Same.{Role, static, user-id, assigned, private_of, Standing, grabbed, inhibited, giving, given}
+use Rattle.domain_laws.specs.Same.{Role, static, user_id, assigned, private_of, Standing, grabbed, inhibited, giving, given}
 use Rattle.domain_laws.specs.View.{View}
 use Rattle.domain_laws.specs.Built.{ascending, takes}
 
@@ -28,7 +28,7 @@ read_user = number 2 >>= λ u. octet >>= λ p. give (u, p)
 -- what a channel of this kind is: a private one has its manager and the users admitted; a number above 3 is no kind
 unfoldable pub read_club : (kind : ℕ) → Reader Role
 read_club zero = give static
-read_club (suc zero) = give user-id
+read_club (suc zero) = give user_id
 read_club (suc (suc zero)) = number 2 >>= λ g. read_rows (number 2) >>= λ is. give (private_of g is)
 read_club (suc (suc (suc zero))) = give assigned
 read_club (suc (suc (suc (suc n)))) = fail 12

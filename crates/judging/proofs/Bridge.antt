@@ -9,13 +9,13 @@ use Rattle.domain.specs.Tables.{Domain, fresh}
 use Rattle.domain.specs.Events.{Outcome, step}
 use Rattle.domain.specs.Outcomes.{step_settled, after, limited, begun}
 use Rattle.history.specs.Recorded.{Call}
-use Rattle.history.specs.Served.{event, Turn, All_bytewise, Run, run, tables, notes, served, serves, started}
+use Rattle.history.specs.Served.{event, Turn, AllBytewise, Run, run, tables, notes, served, serves, started}
 use Rattle.history.proofs.Called.{start_calls}
 use Rattle.history.proofs.Runs.{begun_fresh}
 use Rattle.judging.specs.Traces.{Frame, came, went}
 use Rattle.judging.specs.Conforming.{shown, due}
 use Rattle.judging.specs.Room.{packets}
-use Rattle.judging.specs.Claims.{our_trace, Roomy, traced, None_9, Notes_conform, BridgeConforms}
+use Rattle.judging.specs.Claims.{our_trace, Roomy, traced, None9, NotesConform, BridgeConforms}
 use Rattle.judging.proofs.InRoom.{due_there}
 use Rattle.judging.proofs.Own.{ours}
 
@@ -45,28 +45,28 @@ same_trace [] r = sym (append-nil (traced (notes r)))
 same_trace (t ∷ ts) r = same_trace ts (served r t) ∙ one_more r t (map sized ts)
 
 -- no later turn takes a note away
-none_before : (ts : List Turn) (r : Run) → None_9 (notes (serves r ts)) → None_9 (notes r)
+none_before : (ts : List Turn) (r : Run) → None9 (notes (serves r ts)) → None9 (notes r)
 unfolding serves served notes
 none_before [] r h = h
 none_before (t ∷ ts) r h = (none_before ts (served r t) h).1
 
 -- so there was room for every answer
-all_roomy : (ts : List Turn) (r : Run) → All_bytewise ts → None_9 (notes (serves r ts)) → Roomy (tables r) (map sized ts)
+all_roomy : (ts : List Turn) (r : Run) → AllBytewise ts → None9 (notes (serves r ts)) → Roomy (tables r) (map sized ts)
 unfolding serves served notes tables after step_settled
 all_roomy [] r y h = tt
 all_roomy (t ∷ ts) r y h = (y.0, (none_before ts (served r t) h).0, all_roomy ts (served r t) y.1 h)
 
 -- J2 of octets: of the run
-run_conforms : (channels users tokens : ℕ) (before : Domain) (ts : List Turn) → All_bytewise ts → (begun channels users tokens before).0 ≡ 0
-    → Notes_conform (limited channels users tokens) (serves (started channels users tokens before) ts)
+run_conforms : (channels users tokens : ℕ) (before : Domain) (ts : List Turn) → AllBytewise ts → (begun channels users tokens before).0 ≡ 0
+    → NotesConform (limited channels users tokens) (serves (started channels users tokens before) ts)
 unfolding traced notes tables
 run_conforms channels users tokens before ts y z h =
     let b = begun_fresh channels users tokens before z in
     let r : Run = run (fresh (limited channels users tokens)) [] in
-    let n : None_9 (notes (serves r ts)) = rw b.1 at h in
+    let n : None9 (notes (serves r ts)) = rw b.1 at h in
     rw (b.1, same_trace ts r) (ours (limited channels users tokens) (map sized ts) b.0 (all_roomy ts r y n))
 
 -- and of what was called
 pub recorded : BridgeConforms
 recorded channels users tokens before ts y =
-    (run_conforms channels users tokens before ts y, start_calls (Notes_conform (limited channels users tokens)) channels users tokens before ts (run_conforms channels users tokens before ts y))
+    (run_conforms channels users tokens before ts y, start_calls (NotesConform (limited channels users tokens)) channels users tokens before ts (run_conforms channels users tokens before ts y))

@@ -9,7 +9,7 @@ use Rattle.codec_table.specs.Codec.{ok}
 use Rattle.codec_table.specs.Named.{Message, fields, heard, octets}
 use Rattle.codec_table.proofs.NamedLaws.{heard_sent, formed_sent}
 use Rattle.out_records.specs.Records.{Sent, to, wire}
-use Rattle.domain.specs.Tables.{Domain, fresh, grant, Free_id}
+use Rattle.domain.specs.Tables.{Domain, fresh, grant, FreeId}
 use Rattle.domain.specs.Events.{Outcome, step}
 use Rattle.domain.specs.Good.{Good}
 use Rattle.domain.proofs.invariant.GoodIsSound.{good_sound}
@@ -22,7 +22,7 @@ use Rattle.history.proofs.AsHeard.{event_formed, event_legible}
 use Rattle.judging.specs.Conforming.{ample, demanded}
 use Rattle.judging.specs.Judge.{id_in, judge}
 use Rattle.judging.specs.Room.{packets, some_packets}
-use Rattle.judging.specs.Claims.{Ways, one_way, by_id, SameOrOne, Forced, any_id, one_id, IdsForced, One_form, ByOctets, RoomJudges}
+use Rattle.judging.specs.Claims.{Ways, one_way, by_id, SameOrOne, Forced, any_id, one_id, IdsForced, OneForm, ByOctets, RoomJudges}
 use Rattle.judging.proofs.Forks.{NamesId, Goings, goes_one_way, goes_by_id, ways}
 use Rattle.judging.proofs.Forcing.{is_user, one_fits}
 use Rattle.judging.proofs.InRoom.{in_room}
@@ -59,7 +59,7 @@ forced_ids d c new old y e = go (ways_are d c y)
         one_id (sym (n new) ∙ ap (λ (x : Message). id_in (fields x)) is ∙ n old)
 
 -- ---- all that is demanded is read back
-module _ (d : Domain) (g : Good d) (c : Call) (y : Bytewise c) (new : ℕ) (f : Free_id d new) where
+module _ (d : Domain) (g : Good d) (c : Call) (y : Bytewise c) (new : ℕ) (f : FreeId d new) where
   -- each record, whatever the id
   demanded_readable : Readables (demanded new d c).sent
   unfolding demanded step
@@ -84,7 +84,7 @@ one_form m r os y = (
       cc,
 )
 
-forms : (rs : List Sent) → Readables rs → One_form rs
+forms : (rs : List Sent) → Readables rs → OneForm rs
 forms [] r = tt
 forms (to q m ∷ rs) r = (one_form m r.0, forms rs r.1)
 

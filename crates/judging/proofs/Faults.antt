@@ -7,10 +7,10 @@ use Prim.Native.Nat.{ℕ, suc, ◌+◌}
 use native.Mathlib.Omega.{arith}
 use Rattle.cols_spec.specs.Sets.{null}
 use Rattle.domain.specs.declared.Limits.{Limits}
-use Rattle.domain.specs.Tables.{Domain, fresh, Free_id}
+use Rattle.domain.specs.Tables.{Domain, fresh, FreeId}
 use Rattle.domain.specs.Events.{Outcome}
 use Rattle.domain.specs.Good.{Good}
-use Rattle.judging.specs.Traces.{Packet, on, Frame, came, went, first_records, groups, Events_bytewise}
+use Rattle.judging.specs.Traces.{Packet, on, Frame, came, went, first_records, groups, EventsBytewise}
 use Rattle.judging.specs.Conforming.{due, Conforms}
 use Rattle.judging.specs.Judge.{fault, strike, next_id, chosen, struck, judge_from}
 use Rattle.judging.specs.Claims.{GroupEnds, Wrong, Missing, AtFault, a_record, an_event}
@@ -130,7 +130,7 @@ same_fault : {n k : ℕ} → fault n ≡ fault k → k ≡ n
 same_fault e = cc
 
 -- the frame named is at fault
-faults : (fs : List Frame) (d : Domain) → Good d → (left : List Packet) (at n k : ℕ) → Events_bytewise fs → judge_from d left at n fs ≡ fault k → Faults d left at n fs k
+faults : (fs : List Frame) (d : Domain) → Good d → (left : List Packet) (at n k : ℕ) → EventsBytewise fs → judge_from d left at n fs ≡ fault k → Faults d left at n fs k
 unfolding judge_from null first_records groups
 faults [] d g [] at n k y e = absurd (no_fault (sym e))
 faults [] d g (s ∷ ss) at n k y e = lacks (same_fault e) (left_over d s ss [] tt)
@@ -138,7 +138,7 @@ faults (came c ∷ fs) d g (s ∷ ss) at n k y e = lacks (same_fault e) (left_ov
 faults (came c ∷ fs) d g [] at n k y e =
     go (faults fs (judged_step d c fs).domain (good_after d g c y.0 _ f) (due (judged_step d c fs)) n (suc n) k y.1 e)
   where
-    f : Free_id d (chosen d.channels (next_id fs))
+    f : FreeId d (chosen d.channels (next_id fs))
     f = chosen_free d g (next_id fs)
 
     o : Outcome
@@ -257,7 +257,7 @@ module _ (l : Limits) where
       go (r ∷ rs) p = nil≢cons (sym (sym (first_of_records (r ∷ (rs ++ (w.one ∷ w.more)))) ∙ Perm.eq-nil p))
 
   -- J3, one way: the frame named is at fault
-  pub fresh_faults : (fs : List Frame) → Good (fresh l) → (n : ℕ) → Events_bytewise fs → judge_from (fresh l) [] 0 0 fs ≡ fault n → AtFault (Conforms l) fs n
+  pub fresh_faults : (fs : List Frame) → Good (fresh l) → (n : ℕ) → EventsBytewise fs → judge_from (fresh l) [] 0 0 fs ≡ fault n → AtFault (Conforms l) fs n
   fresh_faults fs g n y e = go (faults fs (fresh l) g [] 0 0 n y e)
     where
       go : Faults (fresh l) [] 0 0 fs n → AtFault (Conforms l) fs n

@@ -14,7 +14,7 @@ use Rattle.codec_table.specs.Named.{Message, fields}
 use Rattle.codec_table.proofs.NamedLaws.{User, heard_read}
 use Rattle.out_records.specs.Records.{to, wire, records}
 use Rattle.out_records.proofs.Telling.{sent_length}
-use Rattle.domain.specs.Tables.{Channels, Domain, between, grant, free_id, Free_id}
+use Rattle.domain.specs.Tables.{Channels, Domain, between, grant, free_id, FreeId}
 use Rattle.domain.specs.Events.{Outcome, sends, step_with, step}
 use Rattle.domain.specs.Good.{Good}
 use Rattle.domain.proofs.invariant.Sound.{free_parts}
@@ -36,20 +36,20 @@ use Rattle.judging.proofs.Matching.{only_one}
 -- ---- ids
 
 -- a free id is a user's
-pub is_user : (d : Domain) (new : ℕ) → Free_id d new → User new
+pub is_user : (d : Domain) (new : ℕ) → FreeId d new → User new
 is_user d new f = let b = free_parts d new f in record { least = b.0; most = b.1 }
 
 -- the id that is chosen is free
-pub chosen_free : (d : Domain) → Good d → (n : ℕ) → Free_id d (chosen d.channels n)
+pub chosen_free : (d : Domain) → Good d → (n : ℕ) → FreeId d (chosen d.channels n)
 unfolding chosen
 chosen_free d g n = go (free_id d.channels n) refl
   where
-    go : (b : Bool) → free_id d.channels n ≡ b → Free_id d (if b then n else grant d.channels)
+    go : (b : Bool) → free_id d.channels n ≡ b → FreeId d (if b then n else grant d.channels)
     go true e = e
     go false e = grant_free d g
 
 -- a free one is chosen itself
-chosen_is : (d : Domain) (n : ℕ) → Free_id d n → chosen d.channels n ≡ n
+chosen_is : (d : Domain) (n : ℕ) → FreeId d n → chosen d.channels n ≡ n
 unfolding chosen
 chosen_is d n f = rw f refl
 
@@ -59,7 +59,7 @@ unfolding chosen between
 chosen_own cs = refl
 
 -- the tables after it are good again
-pub good_after : (d : Domain) → Good d → (c : Call) → Bytewise c → (new : ℕ) → Free_id d new → Good (demanded new d c).domain
+pub good_after : (d : Domain) → Good d → (c : Call) → Bytewise c → (new : ℕ) → FreeId d new → Good (demanded new d c).domain
 unfolding demanded
 good_after d g c y new f = step_good d new (event c) ample g (event_formed c y) f
 
@@ -85,7 +85,7 @@ next_is (went (on q os) ∷ fs) p m h r =
     rw (s, wire_read m r) refl
 
 -- ---- the id is forced
-pub forced : (d : Domain) (c : Call) → Bytewise c → (new : ℕ) → Free_id d new → (fs : List Frame) → Perm (first_records fs) (due (demanded new d c))
+pub forced : (d : Domain) (c : Call) → Bytewise c → (new : ℕ) → FreeId d new → (fs : List Frame) → Perm (first_records fs) (due (demanded new d c))
     → demanded new d c ≡ demanded (chosen d.channels (next_id fs)) d c
 unfolding demanded due shown
 forced d c y new f fs p = go (ways d (event c) (event_formed c y))

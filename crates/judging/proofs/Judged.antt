@@ -6,13 +6,13 @@ use mathlib.Core.Option.{Option, none, some}
 use Prim.Native.Nat.{ℕ, suc}
 use native.Mathlib.Omega.{arith}
 use Rattle.cols_spec.specs.Sets.{null}
-use Rattle.domain.specs.Tables.{Domain, fresh, Free_id}
+use Rattle.domain.specs.Tables.{Domain, fresh, FreeId}
 use Rattle.domain.specs.Events.{Outcome}
 use Rattle.domain.specs.Good.{Good}
 use Rattle.domain.proofs.invariant.Fresh.{fresh_good}
 use Rattle.history.specs.Recorded.{Call}
 use Rattle.history.specs.Served.{Bytewise}
-use Rattle.judging.specs.Traces.{Packet, Frame, came, went, first_records, groups, Events_bytewise}
+use Rattle.judging.specs.Traces.{Packet, Frame, came, went, first_records, groups, EventsBytewise}
 use Rattle.judging.specs.Conforming.{demanded, due, RightGroup, Runs, outcome, outcomes}
 use Rattle.judging.specs.Judge.{conforms, fault, strike, next_id, chosen, struck, judge_from, judge}
 use Rattle.judging.specs.Claims.{JudgedExactly, OnlyRun}
@@ -32,7 +32,7 @@ pub no_fault : {n : ℕ} → fault n ≡ conforms → ⊥
 no_fault e = let z : ◌≡◌ {A = ℕ} 0 1 = cc in omega (arith, z)
 
 -- an event of a run, with what is behind it: both ways
-pub event_up : (d : Domain) (c : Call) (fs : List Frame) (new : ℕ) → Free_id d new → From (demanded new d c).domain (due (demanded new d c)) fs → From d [] (came c ∷ fs)
+pub event_up : (d : Domain) (c : Call) (fs : List Frame) (new : ℕ) → FreeId d new → From (demanded new d c).domain (due (demanded new d c)) fs → From d [] (came c ∷ fs)
 unfolding first_records groups
 event_up d c fs new f r = (Perm.refl [], (record { new = new; free = f; sent = r.0 }, r.1))
 
@@ -43,7 +43,7 @@ event_down d c y fs x =
     subst (λ (o : Outcome). From o.domain (due o) fs) (forced d c y t.new t.free fs t.sent) (t.sent, x.1.1)
 
 -- ---- what the judge takes conforms
-sound : (fs : List Frame) (d : Domain) → Good d → (left : List Packet) (at n : ℕ) → Events_bytewise fs → judge_from d left at n fs ≡ conforms → From d left fs
+sound : (fs : List Frame) (d : Domain) → Good d → (left : List Packet) (at n : ℕ) → EventsBytewise fs → judge_from d left at n fs ≡ conforms → From d left fs
 unfolding judge_from null first_records groups
 sound [] d g [] at n y e = (Perm.refl [], tt)
 sound [] d g (s ∷ ss) at n y e = absurd (no_fault e)
@@ -59,7 +59,7 @@ sound (went r ∷ fs) d g left at n y e = go (strike r left) refl (λ ss. sound 
     go (some ss) h f e = let q = f ss e in (more r (first_records fs) left ss h q.0, q.1)
 
 -- ---- what conforms the judge takes
-whole : (fs : List Frame) (d : Domain) → Good d → (left : List Packet) (at n : ℕ) → Events_bytewise fs → From d left fs → judge_from d left at n fs ≡ conforms
+whole : (fs : List Frame) (d : Domain) → Good d → (left : List Packet) (at n : ℕ) → EventsBytewise fs → From d left fs → judge_from d left at n fs ≡ conforms
 unfolding judge_from null first_records groups
 whole [] d g [] at n y x = refl
 whole [] d g (s ∷ ss) at n y x = absurd (nil≢cons (Perm.nil-eq x.0))
@@ -82,7 +82,7 @@ exactly l fs i y = (
 )
 
 -- ---- the run is the only one
-same_run : (fs : List Frame) (d : Domain) → Good d → Events_bytewise fs → (a b : Runs d (groups fs)) → outcomes d (groups fs) a ≡ outcomes d (groups fs) b
+same_run : (fs : List Frame) (d : Domain) → Good d → EventsBytewise fs → (a b : Runs d (groups fs)) → outcomes d (groups fs) a ≡ outcomes d (groups fs) b
 unfolding groups outcomes
 same_run [] d g y a b = refl
 same_run (went r ∷ fs) d g y a b = same_run fs d g y a b

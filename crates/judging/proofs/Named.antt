@@ -11,7 +11,7 @@ use Rattle.domain.specs.Tables.{Domain, fresh}
 use Rattle.domain.specs.Good.{Good}
 use Rattle.domain.proofs.invariant.Fresh.{fresh_good}
 use Rattle.history.specs.Recorded.{Call}
-use Rattle.judging.specs.Traces.{Packet, on, Frame, came, went, first_records, groups, Events_bytewise}
+use Rattle.judging.specs.Traces.{Packet, on, Frame, came, went, first_records, groups, EventsBytewise}
 use Rattle.judging.specs.Conforming.{due, Conforms}
 use Rattle.judging.specs.Judge.{fault, strike, next_id, chosen, struck, judge_from, judge}
 use Rattle.judging.specs.Claims.{GroupEnds, AtFault, a_record, an_event, FaultExactly}
@@ -29,7 +29,7 @@ record_on : (d : Domain) (left : List Packet) (r : Packet) (fs : List Frame) (ss
 unfolding first_records groups
 record_on d left r fs ss h b = (b.0, (fewer r (first_records (fs ++ b.0)) left ss h b.1.0, b.1.1))
 
-event_on : (d : Domain) (c : Call) (before : List Frame) (x : Frame) (after : List Frame) → Events_bytewise (came c ∷ (before ++ (x ∷ after)))
+event_on : (d : Domain) (c : Call) (before : List Frame) (x : Frame) (after : List Frame) → EventsBytewise (came c ∷ (before ++ (x ∷ after)))
     → Begins d [] (came c ∷ before) → let o = judged_step d c (before ++ (x ∷ after)) in Begins o.domain (due o) before
 event_on d c [] x after y b = let o = judged_step d c (x ∷ after) in (map went (due o), all_left o.domain (due o))
 event_on d c (z ∷ before) x after y b = (b.0, rw (next_id_split [] z (before ++ b.0) (before ++ (x ∷ after))) at (event_down d c y.0 (z ∷ (before ++ b.0)) b.1))
@@ -41,7 +41,7 @@ untimely d s ss c fs x = nil≢cons (Perm.nil-eq x.0)
 
 -- ---- a record
 -- one that fits nothing is named, wherever it stands
-wrong_named : (before : List Frame) (r : Packet) (after : List Frame) (d : Domain) → Good d → (left : List Packet) (at n : ℕ) → Events_bytewise (before ++ (went r ∷ after))
+wrong_named : (before : List Frame) (r : Packet) (after : List Frame) (d : Domain) → Good d → (left : List Packet) (at n : ℕ) → EventsBytewise (before ++ (went r ∷ after))
     → Begins d left before → ((rest : List Frame) → From d left (before ++ (went r ∷ rest)) → ⊥) → judge_from d left at n (before ++ (went r ∷ after)) ≡ fault (n + length before)
 unfolding judge_from null first_records groups
 wrong_named [] r after d g left at n y b f = go (strike r left) refl
@@ -94,7 +94,7 @@ next_id_begun (came c ∷ before) x es gs rest = refl
 next_id_begun (went (on q os) ∷ before) x es gs rest = refl
 
 -- behind the event itself: where no record is there all that is demanded can follow
-group_on : (d : Domain) (c : Call) (rs : List Packet) (after : List Frame) → Events_bytewise (came c ∷ (map went rs ++ after))
+group_on : (d : Domain) (c : Call) (rs : List Packet) (after : List Frame) → EventsBytewise (came c ∷ (map went rs ++ after))
     → Begins d [] (came c ∷ map went rs) → let o = judged_step d c (map went rs ++ after) in Begins o.domain (due o) (map went rs)
 group_on d c [] after y b = let o = judged_step d c after in (map went (due o), all_left o.domain (due o))
 group_on d c (r ∷ rs) after y b =
@@ -102,7 +102,7 @@ group_on d c (r ∷ rs) after y b =
 
 -- an event whose records are not all there is named, wherever it stands
 missing_named : (before : List Frame) (c : Call) (rs : List Packet) (after : List Frame) (d : Domain) → Good d → (left : List Packet) (at n : ℕ)
-    → Events_bytewise (before ++ (came c ∷ (map went rs ++ after))) → GroupEnds after → Begins d left (before ++ (came c ∷ map went rs))
+    → EventsBytewise (before ++ (came c ∷ (map went rs ++ after))) → GroupEnds after → Begins d left (before ++ (came c ∷ map went rs))
     → (From d left (before ++ (came c ∷ map went rs)) → ⊥) → judge_from d left at n (before ++ (came c ∷ (map went rs ++ after))) ≡ fault (n + length before)
 unfolding judge_from null first_records groups
 missing_named [] c rs after d g (s ∷ ss) at n y h b f = absurd (untimely d s ss c (map went rs ++ b.0) b.1)

@@ -16,7 +16,7 @@ use Rattle.domain.specs.declared.Limits.{Limits}
 use Rattle.domain.specs.Tables.{in_range}
 use Rattle.domain.specs.Outcomes.{limited}
 use Rattle.history.specs.Recorded.{opening, losing, message}
-use Rattle.judging.specs.Traces.{on, Frame, came, went, Events_bytewise}
+use Rattle.judging.specs.Traces.{on, Frame, came, went, EventsBytewise}
 use Rattle.judging.specs.Judge.{Verdict, in_front, judge}
 use Rattle.judging.specs.Whole.{frame_of, frames_by, some_frames, all_frames, refuses, says, judged_by, judgement, OctetsExactly, RefusalsExactly}
 use Rattle.judging.proofs.Judged.{exactly}
@@ -33,11 +33,11 @@ bytes_drop zero s y = y
 bytes_drop (suc n) [] y = tt
 bytes_drop (suc n) (x ∷ s) y = bytes_drop n s y.1
 
-frame_bytes : (kind q : ℕ) (os : List ℕ) (fs : List Frame) → Bytes os → Events_bytewise fs → Events_bytewise (frame_of kind q os ∷ fs)
+frame_bytes : (kind q : ℕ) (os : List ℕ) (fs : List Frame) → Bytes os → EventsBytewise fs → EventsBytewise (frame_of kind q os ∷ fs)
 unfolding frame_of
 frame_bytes kind q os fs y h = go (eqb kind 0) (eqb kind 1) (eqb kind 2)
   where
-    go : (a b c : Bool) → Events_bytewise ((if a then came (opening q) else if b then came (losing q) else if c then came (message q os) else went (on q os)) ∷ fs)
+    go : (a b c : Bool) → EventsBytewise ((if a then came (opening q) else if b then came (losing q) else if c then came (message q os) else went (on q os)) ∷ fs)
     go true b c = (tt, h)
     go false true c = (tt, h)
     go false false true = (y, h)
@@ -45,19 +45,19 @@ frame_bytes kind q os fs y h = go (eqb kind 0) (eqb kind 1) (eqb kind 2)
 
 module _ (front : (List ℕ → Front)) where
   -- so are those of every event
-  frames_bytes : (n : ℕ) (s : List ℕ) (fs : List Frame) → Bytes s → some_frames front n s ≡ some fs → Events_bytewise fs
+  frames_bytes : (n : ℕ) (s : List ℕ) (fs : List Frame) → Bytes s → some_frames front n s ≡ some fs → EventsBytewise fs
   unfolding some_frames
   frames_bytes zero s fs y e = let q : fs ≡ [] = cc in rw q tt
   frames_bytes (suc n) s fs y e = go (front s) e (λ size gs. frames_bytes n (drop size s) gs (bytes_drop size s y))
     where
-      rest : (kind q start size : ℕ) (x : Option (List Frame)) → ((gs : List Frame) → x ≡ some gs → Events_bytewise gs)
-          → in_front (frame_of kind q (take (size - start) (drop start s))) x ≡ some fs → Events_bytewise fs
+      rest : (kind q start size : ℕ) (x : Option (List Frame)) → ((gs : List Frame) → x ≡ some gs → EventsBytewise gs)
+          → in_front (frame_of kind q (take (size - start) (drop start s))) x ≡ some fs → EventsBytewise fs
       rest kind q start size none f e = absurd (none≢some e)
       rest kind q start size (some gs) f e =
           let is : fs ≡ frame_of kind q (take (size - start) (drop start s)) ∷ gs = cc in
           rw is (frame_bytes kind q (take (size - start) (drop start s)) gs (bytes_take (size - start) (drop start s) (bytes_drop start s y)) (f gs refl))
 
-      go : (x : Front) → frames_by x s (some_frames front n) ≡ some fs → ((size : ℕ) (gs : List Frame) → some_frames front n (drop size s) ≡ some gs → Events_bytewise gs) → Events_bytewise fs
+      go : (x : Front) → frames_by x s (some_frames front n) ≡ some fs → ((size : ℕ) (gs : List Frame) → some_frames front n (drop size s) ≡ some gs → EventsBytewise gs) → EventsBytewise fs
       go over e f = let q : fs ≡ [] = cc in rw q tt
       go (frame kind q start size) e f = rest kind q start size (some_frames front n (drop size s)) (f size) e
       go (refused r) e f = absurd (none≢some e)
@@ -71,7 +71,7 @@ module _ (front : (List ℕ → Front)) where
   unfolding judgement all_frames
   of_octets channels users tokens s fs y i e =
       let l = limited channels users tokens in
-      let b : Events_bytewise fs = frames_bytes (length s) s fs y e in
+      let b : EventsBytewise fs = frames_bytes (length s) s fs y e in
       let is : judgement front channels users tokens s ≡ says (judge l fs) = rw (i, e) refl in
       let one = exactly l fs i b in (
         (λ v. one.0 (says_same _ _ (sym is ∙ v)), λ x. is ∙ ap says (one.1 x)),

@@ -6,25 +6,25 @@ use Rattle.codec_table.specs.Codec.{ok}
 use Rattle.codec_table.specs.Named.{Message, fields, heard}
 use Rattle.out_records.specs.Records.{Sent, to, wire}
 use Rattle.domain.specs.declared.Limits.{Limits}
-use Rattle.domain.specs.Tables.{Domain, fresh, in_range, Free_id}
+use Rattle.domain.specs.Tables.{Domain, fresh, in_range, FreeId}
 use Rattle.domain.specs.Events.{step, step_with}
 use Rattle.domain.specs.Good.{Good}
 use Rattle.domain.specs.Outcomes.{limited, begun}
 use Rattle.history.specs.Recorded.{Call, Note}
-use Rattle.history.specs.Served.{event, Bytewise, Turn, All_bytewise, Run, run, notes, serves, started, Calls}
-use Rattle.judging.specs.Traces.{Packet, Frame, came, went, groups, Events_bytewise}
+use Rattle.history.specs.Served.{event, Bytewise, Turn, AllBytewise, Run, run, notes, serves, started, Calls}
+use Rattle.judging.specs.Traces.{Packet, Frame, came, went, groups, EventsBytewise}
 use Rattle.judging.specs.Conforming.{ample, demanded, shown, outcomes, Conforms}
 use Rattle.judging.specs.Judge.{conforms, fault, id_in, judge}
 use Rattle.judging.specs.Room.{packets, judge_in}
 
 -- J1. The judge says that a trace conforms exactly when some run by the rules gives it
 abbrev pub JudgedExactly : Type 0
-JudgedExactly = (l : Limits) (fs : List Frame) → So (in_range l) → Events_bytewise fs → (judge l fs ≡ conforms) ↔ Conforms l fs
+JudgedExactly = (l : Limits) (fs : List Frame) → So (in_range l) → EventsBytewise fs → (judge l fs ≡ conforms) ↔ Conforms l fs
 
 -- J4. That run is the only one: their records force the ids
 abbrev pub OnlyRun : Type 0
 OnlyRun =
-    (l : Limits) (fs : List Frame) → So (in_range l) → Events_bytewise fs → (a b : Conforms l fs)
+    (l : Limits) (fs : List Frame) → So (in_range l) → EventsBytewise fs → (a b : Conforms l fs)
     → outcomes (fresh l) (groups fs) a.1 ≡ outcomes (fresh l) (groups fs) b.1
 
 -- two ids are one, unless every id goes the same way
@@ -39,7 +39,7 @@ IdsForced = (d : Domain) (c : Call) (new old : ℕ) → Bytewise c → demanded 
 -- room for every answer is unlimited room: any more changes nothing
 abbrev pub RoomForAll : Type 0
 RoomForAll =
-    (d : Domain) (new : ℕ) (c : Call) (room : ℕ) → Good d → Bytewise c → Free_id d new → ample ≤ room → step_with new d (event c) room ≡ demanded new d c
+    (d : Domain) (new : ℕ) (c : Call) (room : ℕ) → Good d → Bytewise c → FreeId d new → ample ≤ room → step_with new d (event c) room ≡ demanded new d c
 
 -- an event goes the same way for each new id; or it sends one record, whatever the id, and the record names it
 pub data Ways (d : Domain) (c : Call) : Type 0 where
@@ -51,13 +51,13 @@ abbrev pub SameOrOne : Type 0
 SameOrOne = (d : Domain) (c : Call) → Bytewise c → Ways d c
 
 -- octets are those of a demanded record exactly when they are read as its message: PER has one form
-abbrev pub One_form : List Sent → Type 0
-One_form [] = Unit {0}
-One_form (to q m ∷ rs) = ((os : List ℕ) → Bytes os → (os ≡ wire m) ↔ (heard os ≡ ok m)) × One_form rs
+abbrev pub OneForm : List Sent → Type 0
+OneForm [] = Unit {0}
+OneForm (to q m ∷ rs) = ((os : List ℕ) → Bytes os → (os ≡ wire m) ↔ (heard os ≡ ok m)) × OneForm rs
 
 -- of every record that is demanded
 abbrev pub ByOctets : Type 0
-ByOctets = (d : Domain) (new : ℕ) (c : Call) → Good d → Bytewise c → Free_id d new → One_form (demanded new d c).sent
+ByOctets = (d : Domain) (new : ℕ) (c : Call) → Good d → Bytewise c → FreeId d new → OneForm (demanded new d c).sent
 
 -- the judge that works in the octets of the room says the same
 abbrev pub RoomJudges : Type 0
@@ -87,21 +87,21 @@ traced [] = []
 traced (n ∷ ns) = traced ns ++ (came n.call ∷ map went (packets n.sent))
 
 -- no answer was 9
-abbrev pub None_9 : List Note → Type 0
-None_9 [] = Unit {0}
-None_9 (n ∷ ns) = (n.reply ≡ 9 → ⊥) × None_9 ns
+abbrev pub None9 : List Note → Type 0
+None9 [] = Unit {0}
+None9 (n ∷ ns) = (n.reply ≡ 9 → ⊥) × None9 ns
 
 -- what is noted of a run, where no answer was 9, is a trace that conforms
-abbrev pub Notes_conform : Limits → Run → Type 0
-Notes_conform l r = None_9 (notes r) → Conforms l (traced (notes r))
+abbrev pub NotesConform : Limits → Run → Type 0
+NotesConform l r = None9 (notes r) → Conforms l (traced (notes r))
 
 -- J2 of octets: any limits that `start` takes, any calls with any octets and any rooms; of the run, and of what the public functions did from the tables that
 -- `start` left with reply 0
 abbrev pub BridgeConforms : Type 0
 BridgeConforms =
-    (channels users tokens : ℕ) (before : Domain) (ts : List Turn) → All_bytewise ts
-    → ((begun channels users tokens before).0 ≡ 0 → Notes_conform (limited channels users tokens) (serves (started channels users tokens before) ts))
-    × ((d : Domain) → ◌≡◌ {A = ℕ × Domain} (0, d) (begun channels users tokens before) → (r : Run) → Calls (run d []) ts r → Notes_conform (limited channels users tokens) r)
+    (channels users tokens : ℕ) (before : Domain) (ts : List Turn) → AllBytewise ts
+    → ((begun channels users tokens before).0 ≡ 0 → NotesConform (limited channels users tokens) (serves (started channels users tokens before) ts))
+    × ((d : Domain) → ◌≡◌ {A = ℕ × Domain} (0, d) (begun channels users tokens before) → (r : Run) → Calls (run d []) ts r → NotesConform (limited channels users tokens) r)
 
 -- ---- the frame that is named
 
@@ -143,4 +143,4 @@ pub data AtFault (P : (List Frame → Type 0)) (fs : List Frame) (n : ℕ) : Typ
 
 -- J3. The frame that the judge names is the one at fault, and no other is
 abbrev pub FaultExactly : Type 0
-FaultExactly = (l : Limits) (fs : List Frame) (n : ℕ) → So (in_range l) → Events_bytewise fs → (judge l fs ≡ fault n) ↔ AtFault (Conforms l) fs n
+FaultExactly = (l : Limits) (fs : List Frame) (n : ℕ) → So (in_range l) → EventsBytewise fs → (judge l fs ≡ fault n) ↔ AtFault (Conforms l) fs n

@@ -3,7 +3,7 @@ use Rattle.std.specs.Prelude.{ℕ, ◌≡◌}
 use mathlib.Core.List.{List, [], ◌∷◌, map, Perm}
 use Rattle.out_records.specs.Records.{Sent, to, wire}
 use Rattle.domain.specs.declared.Limits.{Limits}
-use Rattle.domain.specs.Tables.{Domain, fresh, Free_id}
+use Rattle.domain.specs.Tables.{Domain, fresh, FreeId}
 use Rattle.domain.specs.Events.{Outcome, step_with}
 use Rattle.history.specs.Recorded.{Call}
 use Rattle.history.specs.Served.{event}
@@ -29,7 +29,7 @@ due o = map shown o.sent
 -- A free id is asked for also where the event hands out none: one is always free, and the event then goes the same way for each (Claims, same-or-one)
 pub record RightGroup (d : Domain) (g : Group) : Type 0 where
   pub new : ℕ
-  pub free : Free_id d new
+  pub free : FreeId d new
   pub sent : Perm g.sent (due (demanded new d g.call))
 
 -- what that event does

@@ -30,7 +30,7 @@ groups (came c ∷ fs) = record { call = c; sent = first_records fs } ∷ groups
 groups (went r ∷ fs) = groups fs
 
 -- the octets of every event are below 256; of a record nothing is asked
-abbrev pub Events_bytewise : List Frame → Type 0
-Events_bytewise [] = Unit {0}
-Events_bytewise (came c ∷ fs) = Bytewise c × Events_bytewise fs
-Events_bytewise (went r ∷ fs) = Events_bytewise fs
+abbrev pub EventsBytewise : List Frame → Type 0
+EventsBytewise [] = Unit {0}
+EventsBytewise (came c ∷ fs) = Bytewise c × EventsBytewise fs
+EventsBytewise (went r ∷ fs) = EventsBytewise fs

@@ -26,11 +26,11 @@ NeverWished =
     → (after_wished wish d (opens p) out ≡ after d (opens p) out) × (after_wished wish d (loses p) out ≡ after d (loses p) out)
 
 -- in a room for every answer: the tables are those demanded, and the octets sent are the records demanded
-pub record Wished-step (wish : ℕ) (d : Domain) (c : Call) (s : Settled Domain) : Type 0 where
+pub record WishedStep (wish : ℕ) (d : Domain) (c : Call) (s : Settled Domain) : Type 0 where
   pub tables : s.tables ≡ (demanded (chosen d.channels wish) d c).domain
   pub octets : take s.sent s.room ≡ records (demanded (chosen d.channels wish) d c).sent
 
 -- of good tables, and octets below 256
 abbrev pub WishSteps : Type 0
 WishSteps =
-    (wish : ℕ) (d : Domain) (c : Call) (out : List ℕ) → Good d → Bytewise c → ample ≤ length out → Wished-step wish d c (after_wished wish d (event c) out)
+    (wish : ℕ) (d : Domain) (c : Call) (out : List ℕ) → Good d → Bytewise c → ample ≤ length out → WishedStep wish d c (after_wished wish d (event c) out)

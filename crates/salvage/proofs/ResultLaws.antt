@@ -10,7 +10,7 @@ use Rattle.codec_octets.specs.Octets.{octets_of, number, give, follow}
 use Rattle.codec_octets.proofs.OctetLaws.{number_exact}
 use Rattle.salvage.specs.Spans.{Span, kept, cut, spans, all_octets}
 use Rattle.salvage.specs.Answer.{kept_in, entry, cuts_from, output, cut_list}
-use Rattle.salvage.specs.Claims.{Trace, none, next, Right, starts, entry_read, SalvagedAgain, ResultTrace, UncutExactly, UncutWhole, never_9}
+use Rattle.salvage.specs.Claims.{Trace, none, next, Right, Starts, EntryRead, SalvagedAgain, ResultTrace, UncutExactly, UncutWhole, Never9}
 use Rattle.salvage.proofs.SpanLaws.{spans_none}
 use Rattle.salvage.proofs.Laying.{entry_length}
 use Rattle.salvage.proofs.RoomLaws.{salvaged_done}
@@ -130,7 +130,7 @@ count_most (cut a ∷ kept f ∷ kept g ∷ xs) r =
       count_most xs r.1.1.1,
     )
 
-pub never : never_9
+pub never : Never9
 unfolding output cut_list
 never s out list h l =
     let n = ap length (there s) in
@@ -152,11 +152,11 @@ cuts_behind at (cut os ∷ xs) after =
     ∙ ap (λ n. cuts_from (at + length os) xs ++ cuts_from n after) (add_assoc at (length os) (length (all_octets xs)) ∙ ap (λ n. at + n) (sym (length-append os (all_octets xs)))))
     ∙ sym (append_assoc (entry at (length os)) (cuts_from (at + length os) xs) (cuts_from (at + length (os ++ all_octets xs)) after))
 
-pub start : starts
+pub start : Starts
 unfolding cuts_from
 start before after os = cuts_behind 0 before (cut os ∷ after) ∙ ap (λ n. cuts_from 0 before ++ cuts_from n (cut os ∷ after)) (zero-add (length (all_octets before)))
 
-pub entries : entry_read
+pub entries : EntryRead
 unfolding entry
 entries start size rest h l =
     ap (λ os. follow (number 8 os) (λ a. λ r. follow (number 8 r) (λ b. give (a, b)))) (append_assoc (octets_of 8 start) (octets_of 8 size) rest)

@@ -11,7 +11,7 @@ use lib.Seq.{length-take-le, take_at, drop_at}
 use Rattle.trace_frames.specs.Good.{good_size}
 use Rattle.trace_frames.proofs.Good.{within, least, alone}
 use Rattle.salvage.specs.Spans.{begins, resumes, until, Span, kept, cut, spans, all_octets}
-use Rattle.salvage.specs.Claims.{IsFrame, IsCut, Right, all_there, CutsApart, TwoBetween, KeptGood, cut_right, OnlyThese}
+use Rattle.salvage.specs.Claims.{IsFrame, IsCut, Right, AllThere, CutsApart, TwoBetween, KeptGood, CutRight, OnlyThese}
 use Rattle.salvage.proofs.SpanLaws.{none_or_some, begins_none, resumes_none, resumes_next, until_here, until_past, until_most, until_some, spans_none, spans_kept, spans_cut}
 
 apart : {A : Type 0} → true ≡ false → A
@@ -120,7 +120,7 @@ sound (suc k) (o ∷ s) h =
     (λ g. sound_kept (o ∷ s) g (sound k (drop (good_size (o ∷ s)) (o ∷ s)) (omega (arith, length-drop (good_size (o ∷ s)) (o ∷ s)))))
     (none_or_some (good_size (o ∷ s)))
 
-pub there : all_there
+pub there : AllThere
 there s = (sound (length s) s (omega arith)).0
 
 pub right : (s : List ℕ) → Right (spans s)
@@ -138,7 +138,7 @@ from s before after e = right_from before after (rw e at (right s))
 pub frames_good : KeptGood
 frames_good s before after f e = (from s before (kept f ∷ after) e).0
 
-pub cuts_right : cut_right
+pub cuts_right : CutRight
 cuts_right s before after os e = (from s before (cut os ∷ after) e).0
 
 -- no two cuts touch: behind a cut is the end or a good frame

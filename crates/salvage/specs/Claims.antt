@@ -30,8 +30,8 @@ Right (kept f ∷ xs) = IsFrame f × Right xs
 Right (cut os ∷ xs) = IsCut os (all_octets xs) × Right xs
 
 -- V1. "Kept and cut spans in order are the input"
-abbrev pub all_there : Type 0
-all_there = (s : List ℕ) → all_octets (spans s) ≡ s
+abbrev pub AllThere : Type 0
+AllThere = (s : List ℕ) → all_octets (spans s) ≡ s
 
 -- no two cuts touch, and between two cuts are at least two frames
 abbrev pub CutsApart : Type 0
@@ -44,24 +44,24 @@ TwoBetween = (s : List ℕ) (before after : List Span) (a f b : List ℕ) → sp
 abbrev pub KeptGood : Type 0
 KeptGood = (s : List ℕ) (before after : List Span) (f : List ℕ) → spans s ≡ before ++ kept f ∷ after → IsFrame f
 
-abbrev pub cut_right : Type 0
-cut_right = (s : List ℕ) (before after : List Span) (os : List ℕ) → spans s ≡ before ++ cut os ∷ after → IsCut os (all_octets after)
+abbrev pub CutRight : Type 0
+CutRight = (s : List ℕ) (before after : List Span) (os : List ℕ) → spans s ≡ before ++ cut os ∷ after → IsCut os (all_octets after)
 
 -- and no other spans are so
 abbrev pub OnlyThese : Type 0
 OnlyThese = (s : List ℕ) (xs : List Span) → (Right xs × (all_octets xs ≡ s)) ↔ (xs ≡ spans s)
 
--- the list says where each cut starts, behind all octets before it, and how long it is
-abbrev pub starts : Type 0
-starts = (before after : List Span) (os : List ℕ)
+-- the list says where each cut Starts, behind all octets before it, and how long it is
+abbrev pub Starts : Type 0
+Starts = (before after : List Span) (os : List ℕ)
     → cuts_from 0 (before ++ cut os ∷ after) ≡ cuts_from 0 before ++ (entry (length (all_octets before)) (length os) ++ cuts_from (length (all_octets before) + length os) after)
 
 -- an entry is read back as its start and length; in a trace of fewer than 2 ^ 64 octets both are below 2 ^ 64
 abbrev pub read_entry : Reader (ℕ × ℕ)
 read_entry = number 8 >>= λ start. number 8 >>= λ size. give (start, size)
 
-abbrev pub entry_read : Type 0
-entry_read = (start size : ℕ) (rest : List ℕ) → start < 2 ^ 64 → size < 2 ^ 64 → read_entry (entry start size ++ rest) ≡ got (start, size) rest
+abbrev pub EntryRead : Type 0
+EntryRead = (start size : ℕ) (rest : List ℕ) → start < 2 ^ 64 → size < 2 ^ 64 → read_entry (entry start size ++ rest) ≡ got (start, size) rest
 
 -- V3. "salvaging the result cuts nothing", and gives it back
 abbrev pub SalvagedAgain : Type 0
@@ -79,5 +79,5 @@ abbrev pub UncutWhole : Type 0
 UncutWhole = (s : List ℕ) → Trace s → output s ≡ s
 
 -- V5. rooms that never meet 9: as many octets as the trace has, and an entry for each 11 octets of it, or part of 11, and 10 octets more
-abbrev pub never_9 : Type 0
-never_9 = (s out list : List ℕ) → length s ≤ length out → 16 * ((length s + 10) / 11) ≤ length list → (salvaged s out list).0.reply ≡ 0
+abbrev pub Never9 : Type 0
+Never9 = (s out list : List ℕ) → length s ≤ length out → 16 * ((length s + 10) / 11) ≤ length list → (salvaged s out list).0.reply ≡ 0

@@ -16,10 +16,10 @@ use Rattle.salvage_window.specs.Windows.{decided, keeps, stops, skips, expected,
 abbrev made : ℕ → Bool → Bool → Turn
 made octets kept cutting = record { octets = octets; kept = kept; cutting = cutting }
 
-pub skips-most : (ended : Bool) (w : List ℕ) → skips ended w ≤ length w
+pub skips_most : (ended : Bool) (w : List ℕ) → skips ended w ≤ length w
 unfolding skips
-skips-most ended [] = omega arith
-skips-most ended (o ∷ w) = go (stops ended (o ∷ w)) (skips-most ended w)
+skips_most ended [] = omega arith
+skips_most ended (o ∷ w) = go (stops ended (o ∷ w)) (skips_most ended w)
   where
     go : (t : Bool) → skips ended w ≤ length w → cond t 0 (suc (skips ended w)) ≤ suc (length w)
     go true h = omega arith
@@ -42,9 +42,9 @@ module _ (ended : Bool) (w : List ℕ) where
     unfolding expected
     none_begins z h d f = simp (sym e, z, lt-ltb 0 (length w) (omega arith), f)
 
-    pub some-kept : n ≢ 0 → made n true false ≡ expected ended w
+    pub some_kept : n ≢ 0 → made n true false ≡ expected ended w
     unfolding expected
-    some-kept h = simp (sym e, lt-ltb 0 n (omega arith), ne_eqb n 0 h)
+    some_kept h = simp (sym e, lt-ltb 0 n (omega arith), ne_eqb n 0 h)
 
   pub in_cut : (cutting : Bool) → cutting ≡ true → passed ended w ≡ turn_of ended w cutting
   unfolding turn_of
@@ -56,7 +56,7 @@ module _ (ended : Bool) (w : List ℕ) where
 
 pub within : TurnWithin
 unfolding turn_of expected passed
-within ended w true = skips-most ended w
+within ended w true = skips_most ended w
 within ended w false = keeps_most ended w
 
 pub inside : (ended : Bool) (w : List ℕ) (cutting : Bool) (t : Turn) → t ≡ turn_of ended w cutting → t.octets ≤ length w

@@ -20,7 +20,7 @@ use Rattle.salvage_window.specs.Windows.{decided, keeps, skips, opens, expected,
 use Rattle.salvage_window.specs.Claims.{Place, after, Sweeps, start, next, Enough, left}
 use Rattle.salvage_window.specs.Claims.{SweepSalvages, NoIdle, SweepEnds, FaultTold}
 use Rattle.salvage_window.proofs.Stays.{low_drop, low_front, size_decided, fault_decided, resumes_decided}
-use Rattle.salvage_window.proofs.Answers.{skips-most}
+use Rattle.salvage_window.proofs.Answers.{skips_most}
 use Rattle.salvage_window.proofs.Turns.{run, none_kept, skip, skips_to}
 
 both : (a b : Bool) → (a && b) ≡ true → (a ≡ true) × (b ≡ true)
@@ -258,7 +258,7 @@ module _ (s : List ℕ) (low : OctetsBelow256 s) (w more : List ℕ) (ended : Bo
           omega (
             arith,
             all,
-            skips-most ended w,
+            skips_most ended w,
             mark_most (not (decided ended (2 * longest) (length (drop (skips ended w) w)))) (ltb from (at + skips ended w)),
           )
 

@@ -10,7 +10,7 @@ use lib.Dec.{eqb}
 use lib.ListN.{length, get_or}
 use Rattle.cols_spec.specs.Sets.{keep, any, each, member}
 use Rattle.cols_spec.specs.Places.{Place, At, find, found, next, rising, in_order, picked}
-use Rattle.cols_spec.proofs.Answers.{find-inside}
+use Rattle.cols_spec.proofs.Answers.{find_inside}
 use Rattle.cols_spec.proofs.Bools.{or_elim}
 use Rattle.cols_spec.proofs.Rows.{get_d_any}
 use Rattle.cols_spec.proofs.Members.{member_append}
@@ -46,7 +46,7 @@ module _ (names homes : List ℕ) (p : ℕ) (size : length homes ≡ length name
   away : (u j : ℕ) → find names u ≡ At j → here homes p j ≡ false → those_on (users_of names homes) p (u ∷ []) ≡ []
   unfolding those_on keep attached link found
   away u j e h =
-      ap (λ (w : Place). if found (chosen (users_of names homes) p w) then u ∷ [] else []) e ∙ rw (get_d_any homes j 16 0 (omega (arith, find-inside names u j e)), h) refl
+      ap (λ (w : Place). if found (chosen (users_of names homes) p w) then u ∷ [] else []) e ∙ rw (get_d_any homes j 16 0 (omega (arith, find_inside names u j e)), h) refl
 
   on_here : those_on (users_of names homes) p (in_order names) ≡ those_on (users_of names homes) p (in_order (picked (here homes p) 0 names))
   on_here =

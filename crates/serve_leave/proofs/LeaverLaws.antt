@@ -11,7 +11,7 @@ use lib.ListN.{length, set, take, length-set}
 use lib.Seq.{take-suc-set, get_or-set_other}
 use Rattle.cols_spec.specs.Sets.{null, member, has, with, seats}
 use Rattle.cols_spec.specs.Places.{Place, At, Nowhere, find, found, number}
-use Rattle.cols_spec.proofs.Answers.{find-inside, number_at, number_none}
+use Rattle.cols_spec.proofs.Answers.{find_inside, number_at, number_none}
 use Rattle.domain.specs.Tables.{Users, link, attached}
 use Rattle.domain.proofs.Listed.{places_has}
 use Rattle.domain_tables.proofs.Marking.{places_none, places_more}
@@ -49,7 +49,7 @@ module _ (us : Users) (p u : ℕ) (list : List ℕ) (t : Leavers) where
   module _ (j : ℕ) (is : j ≡ number 64 (attached us p u)) where
     pub adds_nobody : length us.ids ≡ 64 → 64 ≤ j → Adds us p u list t list t
     unfolding found
-    adds_nobody size h = stays (λ ids l. rw (number_none 64 (attached us p u) j is (λ i e. omega (arith, find-inside us.ids u i (attached_find us p u i e))) h) refl)
+    adds_nobody size h = stays (λ ids l. rw (number_none 64 (attached us p u) j is (λ i e. omega (arith, find_inside us.ids u i (attached_find us p u i e))) h) refl)
 
     module _ (low : j < 64) where
       here : attached us p u ≡ At j

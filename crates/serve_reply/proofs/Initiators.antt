@@ -8,7 +8,7 @@ use lib.Dec.{eqb}
 use lib.ListN.{length}
 use Rattle.cols_spec.specs.Places.{Place, At, Nowhere, find, number}
 use Rattle.cols_spec.proofs.Rows.{At≢Nowhere}
-use Rattle.cols_spec.proofs.Answers.{Inside, find-inside, number_at, number_none}
+use Rattle.cols_spec.proofs.Answers.{Inside, find_inside, number_at, number_none}
 use Rattle.domain.specs.Tables.{Users, link, attached}
 use Rattle.domain_tables.specs.Numbered.{place}
 use Rattle.domain.specs.Effects.{Effect, ignored, from}
@@ -18,7 +18,7 @@ sits us p w = elim w [ At i ↦ if eqb (link us i) p then At i else Nowhere | No
 
 pub attached_inside : (us : Users) (p u : ℕ) → Inside (length us.ids) (attached us p u)
 unfolding attached
-attached_inside us p u = go (find us.ids u) (find-inside us.ids u)
+attached_inside us p u = go (find us.ids u) (find_inside us.ids u)
   where
     one : (i : ℕ) (b : Bool) → Inside (length us.ids) (At i) → Inside (length us.ids) (if b then At i else Nowhere)
     one i true h = h

@@ -81,9 +81,9 @@ module _ (full : Bool) (us : Users) (ts : Tokens) (p u i k : ℕ) (here : attach
   attempt_own (Answer n) a o = absurd (miss (0 ∷ 1 ∷ 2 ∷ 3 ∷ []) 4 tt a)
 
   -- the confirm is that of the request: of one that is neither an answer nor an offer, and of an offer whose recipient is not found
-  module _ (ask : Ask) {kind : Confirm} {t : Turned} (is-kind : kind ≡ kind_of ask) (is_turned : t ≡ attempted ask full h i) where
+  module _ (ask : Ask) {kind : Confirm} {t : Turned} (is_kind : kind ≡ kind_of ask) (is_turned : t ≡ attempted ask full h i) where
     confirmed : turn ts p u i k (confirm kind) t ≡ attempt_of ask
-    confirmed = rw (is-kind, is_turned) refl
+    confirmed = rw (is_kind, is_turned) refl
 
     pub confirms_own : (same : Ask) → ask ≡ same → OneOf (0 ∷ 1 ∷ 2 ∷ 3 ∷ []) (tag_of the_type same) → OneOf (0 ∷ 1 ∷ 2 ∷ 4 ∷ []) (tag_of the_type same)
         → turn ts p u i k (confirm kind) t ≡ asked same full us ts p u k

@@ -30,27 +30,27 @@ use Rattle.serve_token_rules.specs.declared.Ask.{Ask}
 use Rattle.serve_token_rules.specs.declared.Ask.TheVariants.{Grab, Inhibit, Release, Offer, Answer}
 use Rattle.serve_token_rules.specs.declared.Fate.TheVariants.{Ignored, Stays, Turns}
 use Rattle.serve_token_rules.specs.declared.Deed.{Deed}
-use Rattle.serve_token_rules.specs.Deeds.{asked, telling, fated, doing, Does}
+use Rattle.serve_token_rules.specs.Deeds.{asked, Telling, fated, Doing, Does}
 use Rattle.serve_reply.proofs.Initiators.{from_at, from_nobody}
 
 -- ---- a deed, and the effect that it is
 module _ (ts : Tokens) (k : ℕ) where
   module _ {q : ℕ} {m : List ℕ} (x : Message) (o : m ≡ wire x) {e : Effect Tokens} where
     pub stays : e ≡ done ts (to q x ∷ []) → Does ts k (record { fate = Stays; told = true; q = q; m = m }) e
-    unfolding Does doing telling fated
+    unfolding Does Doing Telling fated
     stays r = record { message = x; octets = o; effect = r }
 
     pub turns : (h : Holding) {t : Token} → t ≡ token_of h → e ≡ done (set_token ts k h) (to q x ∷ []) → Does ts k (record { fate = Turns t; told = true; q = q; m = m }) e
-    unfolding Does doing telling fated
+    unfolding Does Doing Telling fated
     turns h c r = record { message = x; octets = o; effect = rw (c, set_found ts k h) r }
 
   module _ (d : Deed) {e : Effect Tokens} where
     pub quiet_ignored : d.fate ≡ Ignored → e ≡ ignored → Does ts k d e
-    unfolding Does doing
+    unfolding Does Doing
     quiet_ignored f r = rw f r
 
     pub quiet_turns : (h : Holding) {t : Token} → t ≡ token_of h → d.fate ≡ Turns t → d.told ≡ false → e ≡ done (set_token ts k h) [] → Does ts k d e
-    unfolding Does doing telling fated
+    unfolding Does Doing Telling fated
     quiet_turns h c f s r = rw (f, s, c, set_found ts k h) r
 
     pub does_as : {w : Effect Tokens} → Does ts k d w → w ≡ e → Does ts k d e

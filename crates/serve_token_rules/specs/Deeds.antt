@@ -28,12 +28,12 @@ pub record Told (q : ℕ) (m : List ℕ) (after : Tokens) (e : Effect Tokens) : 
   pub effect : e ≡ done after (to q message ∷ [])
 
 -- or nobody is told
-unfoldable pub telling : Bool → (q : ℕ) (m : List ℕ) (after : Tokens) (e : Effect Tokens) → Type 0
-telling true q m after e = Told q m after e
-telling false q m after e = e ≡ done after []
+unfoldable pub Telling : Bool → (q : ℕ) (m : List ℕ) (after : Tokens) (e : Effect Tokens) → Type 0
+Telling true q m after e = Told q m after e
+Telling false q m after e = e ≡ done after []
 
 abbrev pub Tells : (d : Deed) (after : Tokens) (e : Effect Tokens) → Type 0
-Tells d after e = telling d.told d.q d.m after e
+Tells d after e = Telling d.told d.q d.m after e
 
 -- the table of tokens after it: the cell of the state that token k turns to stands at its place
 unfoldable pub fated : (ts : Tokens) (k : ℕ) (fate : Fate) → Tokens
@@ -42,10 +42,10 @@ fated ts k Stays = ts
 fated ts k (Turns t) = set_at ts (find ts.ids k) k t
 
 -- the deed is the effect e
-unfoldable pub doing : (fate : Fate) (rest : Type 0) (e : Effect Tokens) → Type 0
-doing Ignored rest e = e ≡ ignored
-doing Stays rest e = rest
-doing (Turns t) rest e = rest
+unfoldable pub Doing : (fate : Fate) (rest : Type 0) (e : Effect Tokens) → Type 0
+Doing Ignored rest e = e ≡ ignored
+Doing Stays rest e = rest
+Doing (Turns t) rest e = rest
 
 unfoldable pub Does : (ts : Tokens) (k : ℕ) (d : Deed) (e : Effect Tokens) → Type 0
-Does ts k d e = doing d.fate (Tells d (fated ts k d.fate) e) e
+Does ts k d e = Doing d.fate (Tells d (fated ts k d.fate) e) e

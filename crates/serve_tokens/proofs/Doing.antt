@@ -16,7 +16,7 @@ use Rattle.domain.proofs.Effects.{delivers_none, settle_done}
 use Rattle.serve_token_rules.specs.declared.Fate.{Fate}
 use Rattle.serve_token_rules.specs.declared.Fate.TheVariants.{Ignored, Stays, Turns}
 use Rattle.serve_token_rules.specs.declared.Deed.{Deed}
-use Rattle.serve_token_rules.specs.Deeds.{Told, telling, Tells, fated, doing, Does}
+use Rattle.serve_token_rules.specs.Deeds.{Told, Telling, Tells, fated, Doing, Does}
 use Rattle.serve_token_rules.specs.contracts.Fate.{the_type}
 use Rattle.serve_reply.specs.Whole.{whole}
 use Rattle.serve_reply.proofs.Sending.{confirmed, did_either}
@@ -24,7 +24,7 @@ use Rattle.serve_reply.proofs.Sending.{confirmed, did_either}
 -- ---- who is told
 module _ (d : Deed) (before after : Tokens) (e : Effect Tokens) (out : List ℕ) (t : Tells d after e) where
   told_one : d.told ≡ true → Told d.q d.m after e
-  unfolding telling
+  unfolding Telling
   told_one b = rw b at t
 
   pub told_sent : d.told ≡ true → length d.m ≤ 1024 → {n k : ℕ} {o : List ℕ} → settled {A = Unit {0}} n k tt o ≡ whole (guarded 0 d.m (record_of d.m d.q)) out
@@ -34,7 +34,7 @@ module _ (d : Deed) (before after : Tokens) (e : Effect Tokens) (out : List ℕ)
       did_either (to d.q one.message ∷ []) out (confirmed one.message d.q out one.octets l h) before after ∙ ap (λ (x : Effect Tokens). settle before x out) (sym one.effect)
 
   pub told_none : d.told ≡ false → settled 0 0 after out ≡ settle before e out
-  unfolding telling
+  unfolding Telling
   told_none b =
       let none : e ≡ done after [] = rw b at t in
       delivers_none 0 before after out ∙ settle_done before out after [] ∙ ap (λ (x : Effect Tokens). settle before x out) (sym none)
@@ -46,15 +46,15 @@ unfated ts k Ignored e = refl
 unfated ts k Stays e = refl
 unfated ts k (Turns t) e = absurd (miss (0 ∷ 1 ∷ []) 2 tt e)
 
-goes_on : (fate : Fate) (rest : Type 0) (e : Effect Tokens) → OneOf (1 ∷ 2 ∷ []) (tag_of the_type fate) → doing fate rest e → rest
-unfolding doing
+goes_on : (fate : Fate) (rest : Type 0) (e : Effect Tokens) → OneOf (1 ∷ 2 ∷ []) (tag_of the_type fate) → Doing fate rest e → rest
+unfolding Doing
 goes_on Ignored rest e o r = absurd (miss (1 ∷ 2 ∷ []) 0 tt o)
 goes_on Stays rest e o r = r
 goes_on (Turns t) rest e o r = r
 
 module _ (ts : Tokens) (k : ℕ) (d : Deed) (e : Effect Tokens) (does : Does ts k d e) where
   pub does_ignored : d.fate ≡ Ignored → e ≡ ignored
-  unfolding Does doing
+  unfolding Does Doing
   does_ignored f = rw f at does
 
   pub does_tell : OneOf (1 ∷ 2 ∷ []) (tag_of the_type d.fate) → Tells d (fated ts k d.fate) e

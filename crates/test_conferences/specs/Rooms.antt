@@ -5,7 +5,7 @@ use Rattle.out_records.specs.Records.{Sent, to}
 use Rattle.domain.specs.Events.{opens, hears, reads}
 use Rattle.domain.specs.History.{History, begins, ◌▹◌}
 use Rattle.domain.specs.Claims.{Turn, Run, now, past, from_fresh}
-use Rattle.domain_laws.specs.Same.{static, user-id, private_of, grabbed, inhibited, given}
+use Rattle.domain_laws.specs.Same.{static, user_id, private_of, grabbed, inhibited, given}
 use Rattle.domain_laws.specs.View.{View, view}
 
 -- a message on connection p
@@ -83,7 +83,7 @@ tables_left = record {
   limits = record { channels = 128; users = 64; tokens = 64 };
   links = 7;
   users = (1001, 0) ∷ (1005, 2) ∷ [];
-  channels = (5, (static, 2)) ∷ (1001, (user-id, 0)) ∷ (1005, (user-id, 0)) ∷ (1006, (private_of 1001 [], 0)) ∷ [];
+  channels = (5, (static, 2)) ∷ (1001, (user_id, 0)) ∷ (1005, (user_id, 0)) ∷ (1006, (private_of 1001 [], 0)) ∷ [];
   tokens = (2, grabbed 1001) ∷ (3, given 1005) ∷ (4, inhibited (1001 ∷ [])) ∷ [];
 }
 

@@ -8,7 +8,7 @@ use lib.ListN.{length, take, drop, get_or, take-append-drop}
 use lib.Seq.{length-take-le, get_or-take}
 use Rattle.trace_frames.specs.Frames.{front, size_of}
 use Rattle.trace_frames.specs.Claims.{Breaks, OctetsBelow256}
-use Rattle.trace_frames.specs.Good.{size_in, good_size, SizeWithin, SizeLeast, SizeAlone, longest, size_most, SizeStays}
+use Rattle.trace_frames.specs.Good.{size_in, good_size, SizeWithin, SizeLeast, SizeAlone, longest, SizeMost, SizeStays}
 use Rattle.trace_frames.proofs.Laws.{Keeps, judge, over_is, bad_is, good_is, stays}
 
 pub broken : (s : List ℕ) → Breaks s → good_size s ≡ 0
@@ -52,7 +52,7 @@ alone s more h =
 pub size_says : (s : List ℕ) → OctetsBelow256 s → size_of s ≤ longest
 size_says s low = omega (arith, low 0, low 1)
 
-pub most : size_most
+pub most : SizeMost
 most s low = ⊎_elim (λ e. omega arith) (λ k. omega (arith, keeping s k, size_says s low)) (sizes s)
 
 pub stays_good : SizeStays

@@ -14,7 +14,7 @@ use Rattle.trace_frames.specs.declared.Frame.{Frame}
 use Rattle.trace_frames.specs.declared.Frame.TheVariants.{End, Good, Bad}
 use Rattle.trace_frames.specs.Frames.{Front, over, frame, refused, of_kind, front, meaning, length_of, size_of, version_of, kind_of, connection_of}
 use Rattle.trace_frames.specs.Claims.{Breaks, no_length, length_below_3, octets_missing, other_version, other_kind, octets_behind, frame_octets, OctetsBelow256}
-use Rattle.trace_frames.specs.Claims.{BadExactly, GoodStands, GoodInside, GoodFound, WholeStays, one_answer}
+use Rattle.trace_frames.specs.Claims.{BadExactly, GoodStands, GoodInside, GoodFound, WholeStays, OneAnswer}
 
 -- all the rules
 pub record Keeps (s : List ℕ) : Type 0 where
@@ -234,5 +234,5 @@ back_meaning (Good Loss p start size) = refl
 back_meaning (Good Message p start size) = refl
 back_meaning Bad = refl
 
-pub one : one_answer
+pub one : OneAnswer
 one s f g a b = sym (back_meaning f) ∙ ap back (a ∙ sym b) ∙ back_meaning g

@@ -42,5 +42,5 @@ abbrev pub WholeStays : Type 0
 WholeStays = (s more : List ℕ) → 2 ≤ length s → size_of s ≤ length s → front (s ++ more) ≡ front s
 
 -- the promise of the frame reader allows one answer
-abbrev pub one_answer : Type 0
-one_answer = (s : List ℕ) (f g : Frame) → meaning f ≡ front s → meaning g ≡ front s → f ≡ g
+abbrev pub OneAnswer : Type 0
+OneAnswer = (s : List ℕ) (f g : Frame) → meaning f ≡ front s → meaning g ≡ front s → f ≡ g

@@ -30,8 +30,8 @@ abbrev pub longest : ℕ
 longest = 65537
 
 -- no good frame is longer
-abbrev pub size_most : Type 0
-size_most = (s : List ℕ) → OctetsBelow256 s → good_size s ≤ longest
+abbrev pub SizeMost : Type 0
+SizeMost = (s : List ℕ) → OctetsBelow256 s → good_size s ≤ longest
 
 -- so what stands behind that many octets does not change whether a good frame begins, nor its size
 abbrev pub SizeStays : Type 0

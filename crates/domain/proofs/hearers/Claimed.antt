@@ -24,7 +24,7 @@ use Rattle.domain.specs.Events.{step, step_with}
 use Rattle.domain.specs.History.{nothing_yet, History, begins, home}
 use Rattle.domain.specs.Claims.{formed, Turn, Run, run, now, past, next_run, goes, from_fresh}
 use Rattle.domain.specs.Hearers.{known_as, convened, admitted, entitled, Hearer, kind_of, is_private, manager, admits_place, MarkedHear, SameManagers, SameAdmitted, Hearing, WhoHeard}
-use Rattle.domain.specs.Hearers.{Went_right, Went_marked, All_right, Data_right, All_marked, DataMarked, DataHeard}
+use Rattle.domain.specs.Hearers.{WentRight, WentMarked, AllRight, DataRight, AllMarked, DataMarked, DataHeard}
 use Rattle.domain.specs.Tables.{seen}
 use Rattle.domain.proofs.Answering.{Passes, step_all}
 use Rattle.domain.proofs.invariant.Sound.{Seated, Host, Sort, Sound}
@@ -189,21 +189,21 @@ heard l ts i f = run_hear l (from_fresh l ts) (trusted_goes l ts (run (fresh l) 
 
 -- ---- data
 
-module _ (data-on : (Message → Option ℕ)) where
+module _ (data_on : (Message → Option ℕ)) where
   all_right : (h : History) (d : Domain) → ((c q g : ℕ) → So (marked d.channels q c) → convened h c ≡ some g → Hearer h c q)
-      → (rs : List Sent) → All_marked data-on d rs → All_right data-on h rs
+      → (rs : List Sent) → AllMarked data_on d rs → AllRight data_on h rs
   all_right h d law [] m = tt
-  all_right h d law (to q m ∷ rs) x = (go (data-on m) x.0, all_right h d law rs x.1)
+  all_right h d law (to q m ∷ rs) x = (go (data_on m) x.0, all_right h d law rs x.1)
     where
-      go : (on : Option ℕ) → Went_marked d q on → Went_right h q on
+      go : (on : Option ℕ) → WentMarked d q on → WentRight h q on
       go none y = tt
       go (some c) y = λ g e. law c q g y e
 
   -- a run that is trusted, and whose data was right
-  abbrev Heard_right : Limits → Run → Type 0
-  Heard_right l r = Trusted l r × Data_right data-on (past r)
+  abbrev HeardRight : Limits → Run → Type 0
+  HeardRight l r = Trusted l r × DataRight data_on (past r)
 
-  right_turned : DataMarked data-on → (l : Limits) (r : Run) (t : Turn) → So (formed t.0) → Heard_right l r → Heard_right l (next_run r t)
+  right_turned : DataMarked data_on → (l : Limits) (r : Run) (t : Turn) → So (formed t.0) → HeardRight l r → HeardRight l (next_run r t)
   unfolding next_run now past
   right_turned law l r t f x =
       let s = good_sound (now r) x.0.faithful.good in
@@ -211,28 +211,28 @@ module _ (data-on : (Message → Option ℕ)) where
       (trusted_turned l r t f x.0, (all_right (past r) (now r) hear (step (now r) t.0 t.1).sent (law (now r) t.0 t.1 x.0.faithful.good f), x.1))
 
   -- from any run that is trusted
-  pub right_goes : DataMarked data-on → (l : Limits) (ts : List Turn) (r : Run) → So (all (λ t. formed t.0) ts) → Heard_right l r → Heard_right l (goes r ts)
-  right_goes law l ts r f x = goes_by (Heard_right l) (right_turned law l) ts r f x
+  pub right_goes : DataMarked data_on → (l : Limits) (ts : List Turn) (r : Run) → So (all (λ t. formed t.0) ts) → HeardRight l r → HeardRight l (goes r ts)
+  right_goes law l ts r f x = goes_by (HeardRight l) (right_turned law l) ts r f x
 
-  pub data_right : DataMarked data-on → DataHeard data-on
+  pub data_right : DataMarked data_on → DataHeard data_on
   unfolding from_fresh past
   data_right law l ts i f = (right_goes law l ts (run (fresh l) (begins nothing_yet)) f (trusted_fresh l i, tt)).1
 
   -- data goes only to marked connections where every message that the machine sends is no data, or is for a marked one
   unfoldable pub marked_there : Domain → Sent → Bool
-  marked_there d (to q m) = elim (data-on m) [ none ↦ true | some c ↦ marked d.channels q c ]
+  marked_there d (to q m) = elim (data_on m) [ none ↦ true | some c ↦ marked d.channels q c ]
 
-  all_there : (d : Domain) (rs : List Sent) → all (marked_there d) rs ≡ true → All_marked data-on d rs
+  all_there : (d : Domain) (rs : List Sent) → all (marked_there d) rs ≡ true → AllMarked data_on d rs
   unfolding all marked_there
   all_there d [] e = tt
   all_there d (to q m ∷ rs) e =
       let r = and_parts (marked_there d (to q m)) _ e in
-      (go (data-on m) r.0, all_there d rs r.1)
+      (go (data_on m) r.0, all_there d rs r.1)
     where
-      go : (on : Option ℕ) → elim on as (λ (_ : Option ℕ). Bool) [ none ↦ true | some c ↦ marked d.channels q c ] ≡ true → Went_marked d q on
+      go : (on : Option ℕ) → elim on as (λ (_ : Option ℕ). Bool) [ none ↦ true | some c ↦ marked d.channels q c ] ≡ true → WentMarked d q on
       go none z = tt
       go (some c) z = z
 
-  pub marked_by : ((d : Domain) → Passes (marked_there d)) → DataMarked data-on
+  pub marked_by : ((d : Domain) → Passes (marked_there d)) → DataMarked data_on
   unfolding step
   marked_by law d e room g f = all_there d (step_with (grant d.channels) d e room).sent (step_all (marked_there d) (law d) (grant d.channels) d e room)

@@ -30,7 +30,7 @@ use Rattle.domain.proofs.invariant.Sound.{Seated, UserRow, Sort, Sound, limits_l
 use Rattle.domain.proofs.invariant.Seats.{kind_of}
 use Rattle.domain.proofs.invariant.Rooms.{add_table}
 use Rattle.domain.proofs.hearers.Notices.{says_nothing, convened_silent, admitted_silent, joined_silent}
-use Rattle.domain.proofs.hearers.Recalls.{Told, Row, Recalls, told_same, Went, fine, quiet, not_opened}
+use Rattle.domain.proofs.hearers.Recalls.{Told, Row, Recalls, told_same, Went, Fine, quiet, not_opened}
 use Rattle.domain.proofs.hearers.Hushed.{say_hushed}
 use Rattle.domain.proofs.hearers.Joining.{one, convened_one, admitted_one, joined_one}
 
@@ -120,7 +120,7 @@ module _ (h : History) (d : Domain) (s : Sound d) (a : Recalls h d.users d.chann
         go i false e l = adm c (get_or us.ids i 0) ∙ rw (ne_eqb (get_or us.ids i 0) new (no_user i)) (t.guests i l)
     came_told c Assigned m n x t = conv_none c t
 
-    came_fine : channels_full d ≡ false → fine h ev (within (put_both d) (done (us', add_channel d.channels new (channel_of User 0)) (to p came ∷ [])))
+    came_fine : channels_full d ≡ false → Fine h ev (within (put_both d) (done (us', add_channel d.channels new (channel_of User 0)) (to p came ∷ [])))
     unfolding within
     came_fine cf = record {
       low = λ c l. conv_none c (a.low c l);
@@ -129,15 +129,15 @@ module _ (h : History) (d : Domain) (s : Sound d) (a : Recalls h d.users d.chann
           (λ j l r. came_told _ (kind (get_or d.channels.cells j no_channel)) _ (ne_eqb _ new (away j)) r.sort (a.rows j l))).rows;
     }
 
-  pub attach_fine : fine h ev (within (put_both d) (attach new (users_full d) (channels_full d) us d.channels p))
+  pub attach_fine : Fine h ev (within (put_both d) (attach new (users_full d) (channels_full d) us d.channels p))
   unfolding attach users_full at_limit within notice says_nothing
   attach_fine = go (users_full d) refl (channels_full d) refl
     where
-      refused : (n : ℕ) → fine h ev (within (put_both d) (done (us, d.channels) (to p (AUcf n none) ∷ [])))
+      refused : (n : ℕ) → Fine h ev (within (put_both d) (done (us, d.channels) (to p (AUcf n none) ∷ [])))
       refused n = quiet h d a ev (record { reply = 0; domain = put_both d (us, d.channels); sent = to p (AUcf n none) ∷ [] }) (not_opened _ still) (say_hushed p (AUcf n none) refl) refl refl
 
       go : (b : Bool) → users_full d ≡ b → (f : Bool) → channels_full d ≡ f
-          → fine h ev (within (put_both d) (if b then done (us, d.channels) (to p (AUcf too_many_users none) ∷ [])
+          → Fine h ev (within (put_both d) (if b then done (us, d.channels) (to p (AUcf too_many_users none) ∷ [])
           else if f then done (us, d.channels) (to p (AUcf too_many_channels none) ∷ [])
           else done (add_user us new p, add_channel d.channels new (channel_of User 0)) (to p (AUcf successful (some new)) ∷ [])))
       go true e f g = refused too_many_users

@@ -10,13 +10,13 @@ use Rattle.cols_spec.specs.Sets.{has, with, all, connections}
 use Rattle.codec_table.specs.Named.{Message, EDrq, DPum, RJum, AUrq, AUcf, DUrq, DUin, CJrq, CJcf, CLrq, CCrq, CCcf, CDrq, CDin, CArq, CAin, CErq, CEin}
 use Rattle.codec_table.specs.Named.{TGrq, TGcf, TIrq, TIcf, TVrq, TVin, TVrs, TVcf, TPrq, TPin, TRrq, TRcf, TTrq, TTcf}
 use Rattle.out_records.specs.Records.{records}
-use Rattle.domain.specs.Tables.{Domain, put_links, Free_id}
+use Rattle.domain.specs.Tables.{Domain, put_links, FreeId}
 use Rattle.domain.specs.Leaving.{close}
 use Rattle.domain.specs.Events.{tokens_full, Event, opens, loses, hears, Reading, reads, refuses, act, ends, sends, stays, answers, complaint, step_with}
 use Rattle.domain.specs.History.{History}
 use Rattle.domain.specs.Hearers.{event_opens}
 use Rattle.domain.proofs.invariant.Sound.{Sound, free_parts}
-use Rattle.domain.proofs.hearers.Recalls.{Recalls, Went, fine, quiet, stay, ends_fine, not_opened}
+use Rattle.domain.proofs.hearers.Recalls.{Recalls, Went, Fine, quiet, stay, ends_fine, not_opened}
 use Rattle.domain.proofs.hearers.Hushed.{complaint_hushed, tokens_fine, take_hush, share_hush, drop_hush, offer_hush, answer_hush, please_hush, test_hush}
 use Rattle.domain.proofs.hearers.Joining.{join_fine, leave_channels_fine, convene_fine, disband_fine}
 use Rattle.domain.proofs.hearers.Naming.{admit_fine, expel_fine}
@@ -30,7 +30,7 @@ module _ (h : History) (d : Domain) (s : Sound d) (a : Recalls h d.users d.chann
   heard_opens p m q = refl
 
   -- each message by its request
-  act_fine : (p : ℕ) (m : Message) → fine h (hears p (reads m)) (act new d p m)
+  act_fine : (p : ℕ) (m : Message) → Fine h (hears p (reads m)) (act new d p m)
   unfolding act all
   act_fine p (EDrq x y) = quiet h d a _ (record { reply = 0; domain = d; sent = [] }) (not_opened _ (heard_opens p _)) refl refl refl
   act_fine p (DPum n) = close_fine h d s a _ (heard_opens p _) p
@@ -93,7 +93,7 @@ module _ (h : History) (d : Domain) (s : Sound d) (a : Recalls h d.users d.chann
 
 -- for any maker's choice of a new id
 pub recalls_step : (h : History) (d : Domain) → Sound d → Recalls h d.users d.channels → (new : ℕ)
-    → Free_id d new → (e : Event) (room : ℕ) → Went h e (step_with new d e room)
+    → FreeId d new → (e : Event) (room : ℕ) → Went h e (step_with new d e room)
 recalls_step h d s a new free e room =
     let b = free_parts d new free in
     follows h d s a new b.0 b.2 e room

@@ -16,7 +16,7 @@ use Rattle.domain.specs.Hearers.{notice, event_opens}
 use Rattle.domain.proofs.Sending.{one_all, tell_all, farewell_all, complaint_all}
 use Rattle.domain.proofs.Answering.{Sends, take_all, share_all, drop_all, offer_all, please_all, test_all, answer_all}
 use Rattle.domain.proofs.hearers.Notices.{says_nothing, hushed}
-use Rattle.domain.proofs.hearers.Recalls.{Recalls, fine, quiet, not_opened}
+use Rattle.domain.proofs.hearers.Recalls.{Recalls, Fine, quiet, not_opened}
 
 -- ---- lists of records
 
@@ -69,7 +69,7 @@ answer_hush us ts p n r k = answer_all hushed us ts p n r k (λ q u s. refl)
 
 -- such a request goes well
 pub tokens_fine : (h : History) (d : Domain) → Recalls h d.users d.channels → (ev : Event) → ((q : ℕ) → event_opens ev q ≡ false) → (x : Effect Tokens) → Sends hushed x
-    → fine h ev (within (put_tokens d) x)
+    → Fine h ev (within (put_tokens d) x)
 unfolding within
 tokens_fine h d a ev o ignored q = tt
 tokens_fine h d a ev o (done ts rs) q = quiet h d a ev (record { reply = 0; domain = put_tokens d ts; sent = rs }) (not_opened _ o) q refl refl

@@ -31,7 +31,7 @@ use Rattle.domain.proofs.invariant.Sound.{Sound}
 use Rattle.domain.proofs.invariant.Seats.{kind_of, marks_of}
 use Rattle.domain.proofs.invariant.Rooms.{add_table, sweep_table}
 use Rattle.domain.proofs.hearers.Notices.{says_nothing, hushed, convened_silent, admitted_silent, joined_silent}
-use Rattle.domain.proofs.hearers.Recalls.{Told, Row, Recalls, told_same, fine, quiet, not_opened, from_fine}
+use Rattle.domain.proofs.hearers.Recalls.{Told, Row, Recalls, told_same, Fine, quiet, not_opened, from_fine}
 use Rattle.domain.proofs.hearers.Hushed.{say_hushed, tell_hushed}
 
 -- what was true stays true
@@ -85,16 +85,16 @@ module _ (h : History) (d : Domain) (s : Sound d) (a : Recalls h d.users d.chann
   cell j = get_or d.channels.cells j no_channel
 
   -- what a request about channels does goes well
-  abbrev pub changes : Effect Channels → Type 0
-  changes x = fine h ev (within (put_channels d) x)
+  abbrev pub Changes : Effect Channels → Type 0
+  Changes x = Fine h ev (within (put_channels d) x)
 
   -- nothing is heard, and the channels stay
-  pub keeps : (rs : List Sent) → all hushed rs ≡ true → changes (done d.channels rs)
+  pub keeps : (rs : List Sent) → all hushed rs ≡ true → Changes (done d.channels rs)
   unfolding within
   keeps rs q = quiet h d a ev (record { reply = 0; domain = d; sent = rs }) (not_opened _ still) q refl refl
 
   -- one message of which nothing is heard
-  pub says : (p : ℕ) (m : Message) → says_nothing (notice m) ≡ true → changes (done d.channels (to p m ∷ []))
+  pub says : (p : ℕ) (m : Message) → says_nothing (notice m) ≡ true → Changes (done d.channels (to p m ∷ []))
   says p m q = keeps (to p m ∷ []) (say_hushed p m q)
 
   -- nothing is heard, and channels are fewer or have fewer marks
@@ -158,7 +158,7 @@ module _ (h : History) (d : Domain) (s : Sound d) (a : Recalls h d.users d.chann
       low_joined x l = same_manager x ∙ a.low x l
 
     -- for a channel in use
-    join_at_fine : (j n : ℕ) → find d.channels.ids c ≡ At j → changes (join_at d.channels p u c j n)
+    join_at_fine : (j n : ℕ) → find d.channels.ids c ≡ At j → Changes (join_at d.channels p u c j n)
     unfolding join_at channel set_channel within
     join_at_fine j zero e = record {
       low = low_joined cz;
@@ -182,7 +182,7 @@ module _ (h : History) (d : Domain) (s : Sound d) (a : Recalls h d.users d.chann
       assigned = CJcf successful u c (some new)
 
       -- the id new is no private channel's then
-      assigned_fine : c ≡ 0 → channels_full d ≡ false → changes (done (add_channel d.channels new (channel_of Assigned (only connections p))) (to p assigned ∷ []))
+      assigned_fine : c ≡ 0 → channels_full d ≡ false → Changes (done (add_channel d.channels new (channel_of Assigned (only connections p))) (to p assigned ∷ []))
       unfolding within notice convening joining admitting
       assigned_fine z few = made_fine new (omega arith) away few Assigned (only connections p) (one ev p assigned ▹ h)
           (λ y l. conv y ∙ rw (eq-eqb c 0 z, ne_eqb y new (λ e. omega arith)) (a.low y l))
@@ -195,17 +195,17 @@ module _ (h : History) (d : Domain) (s : Sound d) (a : Recalls h d.users d.chann
           conv y = convened_one h ev still p assigned (joins c new) refl y
 
       static_fine : 0 < c → c ≤ 1000 → ((j : ℕ) → cid j ≡ c → ⊥) → channels_full d ≡ false
-          → changes (done (add_channel d.channels c (channel_of Static (only connections p))) (to p answer ∷ []))
+          → Changes (done (add_channel d.channels c (channel_of Static (only connections p))) (to p answer ∷ []))
       unfolding within
       static_fine cz cl gone few = made_fine c cz gone few Static (only connections p) (one ev p answer ▹ h)
           (low_joined cz) (λ y n. same_manager cz y) (λ y v n. same_guests cz y v) (λ y q n. now_told cz y q ∙ rw n) (low_joined cz c cl)
 
-      join_new_fine : find d.channels.ids c ≡ Nowhere → changes (join_new new (channels_full d) d.channels p u c)
+      join_new_fine : find d.channels.ids c ≡ Nowhere → Changes (join_new new (channels_full d) d.channels p u c)
       unfolding join_new notice says_nothing
-      join_new_fine none-c = go (ltb 1000 c) refl (channels_full d) refl (eqb c 0) refl
+      join_new_fine none_c = go (ltb 1000 c) refl (channels_full d) refl (eqb c 0) refl
         where
           go : (b : Bool) → ltb 1000 c ≡ b → (f : Bool) → channels_full d ≡ f → (z : Bool) → eqb c 0 ≡ z
-              → changes (if b then done d.channels (to p (CJcf no_such_channel u c none) ∷ [])
+              → Changes (if b then done d.channels (to p (CJcf no_such_channel u c none) ∷ [])
               else if f then done d.channels (to p (CJcf too_many_channels u c none) ∷ [])
               else if z then done (add_channel d.channels new (channel_of Assigned (only connections p))) (to p (CJcf successful u c (some new)) ∷ [])
               else done (add_channel d.channels c (channel_of Static (only connections p))) (to p (CJcf successful u c (some c)) ∷ []))
@@ -215,13 +215,13 @@ module _ (h : History) (d : Domain) (s : Sound d) (a : Recalls h d.users d.chann
           go false b false g false i =
               let cz : c ≡ 0 → ⊥ = eqb-false c 0 i in
               let pos : 0 < c = omega arith in
-              static_fine pos (ltb-false 1000 c b) (find_none d.channels.ids c none-c pos) g
+              static_fine pos (ltb-false 1000 c b) (find_none d.channels.ids c none_c pos) g
 
-      pub join_fine : changes (join new (channels_full d) us d.channels p u c)
+      pub join_fine : Changes (join new (channels_full d) us d.channels p u c)
       unfolding join
       join_fine = from_fine h d a ev (put_channels d) p u _ (λ i mine on. go i (find d.channels.ids c) refl)
         where
-          go : (i : ℕ) (x : Place) → find d.channels.ids c ≡ x → changes (elim x as (λ (_ : Place). Effect Channels) [
+          go : (i : ℕ) (x : Place) → find d.channels.ids c ≡ x → Changes (elim x as (λ (_ : Place). Effect Channels) [
             | At j ↦ join_at d.channels p u c j (may (kind (channel d.channels j)) c u i)
             | Nowhere ↦ join_new new (channels_full d) d.channels p u c
           ])
@@ -235,7 +235,7 @@ module _ (h : History) (d : Domain) (s : Sound d) (a : Recalls h d.users d.chann
     granted = CCcf successful u (some new)
 
     -- its manager is the initiator, and nobody is admitted or joined
-    granted_fine : (i : ℕ) → get_or us.ids i 0 ≡ u → channels_full d ≡ false → changes (done (add_channel d.channels new (channel_of (Private i 0) 0)) (to p granted ∷ []))
+    granted_fine : (i : ℕ) → get_or us.ids i 0 ≡ u → channels_full d ≡ false → Changes (done (add_channel d.channels new (channel_of (Private i 0) 0)) (to p granted ∷ []))
     unfolding within notice convening joining admitting
     granted_fine i e few = made_fine new (omega arith) away few (Private i 0) 0 (one ev p granted ▹ h)
         (λ y l. conv y ∙ rw (ne_eqb y new (λ e. omega arith)) (a.low y l))
@@ -254,19 +254,19 @@ module _ (h : History) (d : Domain) (s : Sound d) (a : Recalls h d.users d.chann
         adm : (y v : ℕ) → admitted (one ev p granted ▹ h) y v ≡ (if eqb y new then false else admitted h y v)
         adm y v = admitted_one h ev still p granted (convenes new u) refl y v
 
-    pub convene_fine : changes (convene new (channels_full d) us d.channels p u)
+    pub convene_fine : Changes (convene new (channels_full d) us d.channels p u)
     unfolding convene notice says_nothing
     convene_fine = from_fine h d a ev (put_channels d) p u _ (λ i mine on. go i mine (channels_full d) refl)
       where
         go : (i : ℕ) → find us.ids u ≡ At i → (b : Bool) → channels_full d ≡ b
-            → changes (if b then done d.channels (to p (CCcf too_many_channels u none) ∷ [])
+            → Changes (if b then done d.channels (to p (CCcf too_many_channels u none) ∷ [])
             else done (add_channel d.channels new (channel_of (Private i 0) 0)) (to p (CCcf successful u (some new)) ∷ []))
         go i mine true e = says p _ refl
         go i mine false e = granted_fine i (find_holds us.ids u i mine).0 e
 
   -- ---- CLrq
 
-  pub leave_channels_fine : (p : ℕ) (cs : List ℕ) → changes (leave_channels d.channels p cs)
+  pub leave_channels_fine : (p : ℕ) (cs : List ℕ) → Changes (leave_channels d.channels p cs)
   unfolding leave_channels left within all
   leave_channels_fine p cs = go (any (has_joined d.channels p) cs)
     where
@@ -277,7 +277,7 @@ module _ (h : History) (d : Domain) (s : Sound d) (a : Recalls h d.users d.chann
           (told_less [] refl c (kind ch) ch.marks (without connections ch.marks p) (λ q l. (in_without 16 ch.marks q p l).0) r)
       row j c ch r false new e = rw (some_is e) (told_less [] refl c (kind ch) ch.marks ch.marks (λ q l. l) r)
 
-      go : (b : Bool) → changes (if b then done (sweep_channels (left p cs) d.channels) [] else ignored)
+      go : (b : Bool) → Changes (if b then done (sweep_channels (left p cs) d.channels) [] else ignored)
       go true = record {
         low = low_hushed [] refl;
         rows = (sweep_table d.channels s.channels_are (Row _ us) (left p cs) (λ j l y ch e. row j (cid j) (cell j) (a.rows j l) (member (cid j) cs) ch e)).rows;
@@ -287,27 +287,27 @@ module _ (h : History) (d : Domain) (s : Sound d) (a : Recalls h d.users d.chann
   -- ---- a request by the manager of a private channel
 
   pub manages_fine : (p u c : ℕ) (act : (ℕ → ℕ → ℕ → Effect Channels))
-      → ((j m adm : ℕ) → find d.channels.ids c ≡ At j → kind (cell j) ≡ Private m adm → changes (act j m adm)) → changes (manages us d.channels p u c act)
+      → ((j m adm : ℕ) → find d.channels.ids c ≡ At j → kind (cell j) ≡ Private m adm → Changes (act j m adm)) → Changes (manages us d.channels p u c act)
   unfolding manages owned channel within
   manages_fine p u c act f = from_fine h d a ev (put_channels d) p u _ (λ i mine on. go i (find d.channels.ids c) refl)
     where
-      either : (b : Bool) (x : Effect Channels) → changes x → changes (if b then x else ignored)
+      either : (b : Bool) (x : Effect Channels) → Changes x → Changes (if b then x else ignored)
       either true x g = g
       either false x g = tt
 
-      its : (i j : ℕ) → find d.channels.ids c ≡ At j → (k : Kind) → kind (cell j) ≡ k → changes (owned k i (act j))
+      its : (i j : ℕ) → find d.channels.ids c ≡ At j → (k : Kind) → kind (cell j) ≡ k → Changes (owned k i (act j))
       its i j e Static q = tt
       its i j e User q = tt
       its i j e (Private m adm) q = either (eqb m i) (act j m adm) (f j m adm e q)
       its i j e Assigned q = tt
 
       go : (i : ℕ) (x : Place) → find d.channels.ids c ≡ x
-          → changes (elim x as (λ (_ : Place). Effect Channels) [ At j ↦ owned (kind (channel d.channels j)) i (act j) | Nowhere ↦ ignored ])
+          → Changes (elim x as (λ (_ : Place). Effect Channels) [ At j ↦ owned (kind (channel d.channels j)) i (act j) | Nowhere ↦ ignored ])
       go i (At j) e = its i j e (kind (cell j)) refl
       go i Nowhere e = tt
 
   -- CDrq
-  pub disband_fine : (p u c : ℕ) → changes (disband us d.channels p u c)
+  pub disband_fine : (p u c : ℕ) → Changes (disband us d.channels p u c)
   unfolding disband end_channel within notice says_nothing
   disband_fine p u c = manages_fine p u c _ (λ j m adm e q.
       let r = find_holds d.channels.ids c j e in

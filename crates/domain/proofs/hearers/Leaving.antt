@@ -30,7 +30,7 @@ use Rattle.domain.proofs.invariant.Seats.{kind_of, marks_of, seated_low}
 use Rattle.domain.proofs.invariant.Rooms.{guests_changed, sweep_table}
 use Rattle.domain.proofs.invariant.Leavers.{own_fate}
 use Rattle.domain.proofs.hearers.Notices.{hushed, convened_silent, admitted_silent}
-use Rattle.domain.proofs.hearers.Recalls.{Recalled, Told, Row, Recalls, fine}
+use Rattle.domain.proofs.hearers.Recalls.{Recalled, Told, Row, Recalls, Fine}
 use Rattle.domain.proofs.hearers.Hushed.{farewell_hushed}
 use Rattle.domain.proofs.hearers.Joining.{marked_is, kind_marked, joined_hushed, low_hushed}
 
@@ -108,7 +108,7 @@ module _ (h : History) (d : Domain) (s : Sound d) (a : Recalls h d.users d.chann
         go false z f = rw (some_is f, guests_changed ch g adm _ p fewer marks', kind_of (Private g fewer) marks', marks_of (Private g fewer) marks') (after z)
     fate_told j c ch Assigned q p x t new e = rw (kind_then ch _ new e ∙ q) (same_none c t)
 
-  leave_fine : (live reason : ℕ) (ids : List ℕ) → fine h ev (leave d live reason ids)
+  leave_fine : (live reason : ℕ) (ids : List ℕ) → Fine h ev (leave d live reason ids)
   unfolding leave fate
   leave_fine live reason ids =
       let gone = places us ids in
@@ -121,15 +121,15 @@ module _ (h : History) (d : Domain) (s : Sound d) (a : Recalls h d.users d.chann
       }
 
   -- DUrq
-  pub detach_fine : (p reason : ℕ) (ids : List ℕ) → fine h ev (detach d p reason ids)
+  pub detach_fine : (p reason : ℕ) (ids : List ℕ) → Fine h ev (detach d p reason ids)
   unfolding detach
   detach_fine p reason ids = go (null (those_on us p (once ids)))
     where
-      go : (b : Bool) → fine h ev (if b then ignored else leave d d.links reason (those_on us p (once ids)))
+      go : (b : Bool) → Fine h ev (if b then ignored else leave d d.links reason (those_on us p (once ids)))
       go true = tt
       go false = leave_fine d.links reason (those_on us p (once ids))
 
   -- DPum, RJum, loss
-  pub close_fine : (p : ℕ) → fine h ev (close d p)
+  pub close_fine : (p : ℕ) → Fine h ev (close d p)
   unfolding close
   close_fine p = leave_fine (without connections d.links p) 0 (those_on us p (in_order us.ids))

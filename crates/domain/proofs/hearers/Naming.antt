@@ -32,7 +32,7 @@ use Rattle.domain.proofs.invariant.Seats.{kind_of, marks_of, seated_low}
 use Rattle.domain.proofs.invariant.Rooms.{guests_changed}
 use Rattle.domain.proofs.hearers.Notices.{own_same, own_names}
 use Rattle.domain.proofs.hearers.Recalls.{Recalled, Row, Recalls, told_same, not_opened}
-use Rattle.domain.proofs.hearers.Joining.{changes, manages_fine}
+use Rattle.domain.proofs.hearers.Joining.{Changes, manages_fine}
 
 -- a user is on one of the 16 connections
 link_low : (d : Domain) → Sound d → (i : ℕ) → Seated d.users i → link d.users i < 16
@@ -54,14 +54,14 @@ module _ (h : History) (d : Domain) (s : Sound d) (a : Recalls h d.users d.chann
   -- messages that name users of channel c and bring t: of them, nothing else is heard
   module _ (c : ℕ) (say : (List ℕ → Message)) (t : Bool)
       (brings : (x v p : ℕ) (xs : List ℕ) (b : Bool) → admitting x v p (notice (say xs)) b ≡ (if eqb x c && member v xs then t else b))
-      (no-grant : (x p : ℕ) (xs : List ℕ) (g : Option ℕ) → convening x p (notice (say xs)) g ≡ g)
+      (no_grant : (x p : ℕ) (xs : List ℕ) (g : Option ℕ) → convening x p (notice (say xs)) g ≡ g)
       (no_join : (x q p : ℕ) (xs : List ℕ) (b : Bool) → joining x q p (notice (say xs)) b ≡ b) (ids : List ℕ) where
     abbrev heard : Entry
     heard = record { event = ev; reply = 0; sent = own us ids say }
 
     same_manager : (x : ℕ) → convened (heard ▹ h) x ≡ convened h x
     unfolding convened
-    same_manager x = own_same (convening x) us say (no-grant x) ids (convened h x)
+    same_manager x = own_same (convening x) us say (no_grant x) ids (convened h x)
 
     same_told : (x q : ℕ) → told_joined (heard ▹ h) x q ≡ told_joined h x q
     unfolding told_joined
@@ -82,7 +82,7 @@ module _ (h : History) (d : Domain) (s : Sound d) (a : Recalls h d.users d.chann
     -- channel c at place j has other users admitted, and no more marks
     named_fine : (j m adm : ℕ) → find d.channels.ids c ≡ At j → kind (cell j) ≡ Private m adm → (adm' marks' : ℕ)
         → ((i : ℕ) → i < 64 → has adm' i ≡ (if has (places us ids) i then t else has adm i)) → ((q : ℕ) → has marks' q ≡ true → has (cell j).marks q ≡ true)
-        → changes h d s a ev still (done (set_channel d.channels j (with_guests (cell j) adm' marks')) (own us ids say))
+        → Changes h d s a ev still (done (set_channel d.channels j (with_guests (cell j) adm' marks')) (own us ids say))
     unfolding set_channel within
     named_fine j m adm e q adm' marks' law fewer = record {
       low = λ x l. same_manager x ∙ a.low x l;
@@ -115,7 +115,7 @@ module _ (h : History) (d : Domain) (s : Sound d) (a : Recalls h d.users d.chann
 
   -- ---- the requests
 
-  either : (b : Bool) (x : Effect Channels) → changes h d s a ev still x → changes h d s a ev still (if b then ignored else x)
+  either : (b : Bool) (x : Effect Channels) → Changes h d s a ev still x → Changes h d s a ev still (if b then ignored else x)
   unfolding within
   either true x f = tt
   either false x f = f
@@ -132,14 +132,14 @@ module _ (h : History) (d : Domain) (s : Sound d) (a : Recalls h d.users d.chann
   listed_out false true = refl
   listed_out false false = refl
 
-  pub admit_fine : (p u c : ℕ) (ids : List ℕ) → changes h d s a ev still (admit us d.channels p u c ids)
+  pub admit_fine : (p u c : ℕ) (ids : List ℕ) → Changes h d s a ev still (admit us d.channels p u c ids)
   unfolding admit channel notice convening joining admitting union
   admit_fine p u c ids = manages_fine h d s a ev still p u c _ (λ j m adm e q.
       either (null (attached_of us ids)) _
       (named_fine c (CAin u c) true (λ x v p xs b. refl) (λ x p xs g. refl) (λ x q p xs b. refl) (attached_of us ids) j m adm e q (union seats adm (places us (attached_of us ids))) (cell j).marks
       (λ i l. has_those 64 (λ k. has adm k || has (places us (attached_of us ids)) k) i l ∙ listed_in (has (places us (attached_of us ids)) i) (has adm i)) (λ q l. l)))
 
-  pub expel_fine : (p u c : ℕ) (ids : List ℕ) → changes h d s a ev still (expel us d.channels p u c ids)
+  pub expel_fine : (p u c : ℕ) (ids : List ℕ) → Changes h d s a ev still (expel us d.channels p u c ids)
   unfolding expel private_marks channel notice convening joining admitting minus
   expel_fine p u c ids = manages_fine h d s a ev still p u c _ (λ j m adm e q.
       either (null (admitted_of us adm ids)) _

@@ -67,9 +67,9 @@ abbrev pub Went : History → Event → Outcome → Type 0
 Went h ev o = Recalls (entry ev o ▹ h) o.domain.users o.domain.channels
 
 -- what a request does goes well; one that is ignored leaves nothing to show
-abbrev pub fine : History → Event → Effect Domain → Type 0
-fine h ev ignored = Unit {0}
-fine h ev (done e rs) = Went h ev (record { reply = 0; domain = e; sent = rs })
+abbrev pub Fine : History → Event → Effect Domain → Type 0
+Fine h ev ignored = Unit {0}
+Fine h ev (done e rs) = Went h ev (record { reply = 0; domain = e; sent = rs })
 
 -- a connection is opened by an opening that is answered 0, and by nothing else
 pub not_opened : (e : Entry) → ((q : ℕ) → event_opens e.event q ≡ false) → (q : ℕ) → link_opened e q ≡ false
@@ -100,13 +100,13 @@ module _ (h : History) (d : Domain) (a : Recalls h d.users d.channels) (ev : Eve
       go false = w
 
   -- a request that is ignored is answered 1
-  pub ends_fine : (room : ℕ) (x : Effect Domain) → fine h ev x → Went h ev (ends d room x)
+  pub ends_fine : (room : ℕ) (x : Effect Domain) → Fine h ev x → Went h ev (ends d room x)
   unfolding ends
   ends_fine room ignored f = stay 1 refl
   ends_fine room (done e rs) f = sends_fine room e rs f
 
   -- a request by a user that is attached there, or by none
   pub from_fine : {A : Type 0} (put : (A → Domain)) (p u : ℕ) (f : (ℕ → Effect A))
-      → ((i : ℕ) → find d.users.ids u ≡ At i → link d.users i ≡ p → fine h ev (within put (f i))) → fine h ev (within put (from d.users p u f))
+      → ((i : ℕ) → find d.users.ids u ≡ At i → link d.users i ≡ p → Fine h ev (within put (f i))) → Fine h ev (within put (from d.users p u f))
   unfolding within
-  from_fine put p u f w = from_by (λ x. fine h ev (within put x)) tt d.users p u f w
+  from_fine put p u f w = from_by (λ x. Fine h ev (within put x)) tt d.users p u f w

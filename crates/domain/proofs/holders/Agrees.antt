@@ -20,7 +20,7 @@ pub use Rattle.domain.specs.Tables.{seen}
 use Rattle.domain.specs.Events.{Event, Outcome, stays, sends, ends}
 use Rattle.domain.specs.Effects.{Effect, ignored, done, from, within}
 use Rattle.domain.specs.History.{Entry, History, ◌▹◌, Word, grabs, inhibits, yields, offers, accepts, declines, other, code, same, unread, asks, told, said, leaves}
-use Rattle.domain.specs.History.{home, nothing, by-grab, by-inhibit}
+use Rattle.domain.specs.History.{home, nothing, by_grab, by_inhibit}
 use Rattle.domain.proofs.invariant.From.{from_by}
 use Rattle.domain.proofs.holders.Heard.{Mark, mark, heard, mark_step, mutes, mute, hush, idle, idle_reply, idle_unread, home_silent, mark_silent}
 
@@ -31,9 +31,9 @@ nobody = (nothing, false)
 -- how the user at place i stands to a token: the grabber and the giver alone, the inhibitors, the recipient
 unfoldable pub stand : Holding → ℕ → Mark
 stand Free i = nobody
-stand (Grabbed g) i = (if eqb g i then by-grab else nothing, false)
-stand (Inhibited us) i = (if has us i then by-inhibit else nothing, false)
-stand (Giving g r) i = (if eqb g i then by-grab else nothing, eqb r i)
+stand (Grabbed g) i = (if eqb g i then by_grab else nothing, false)
+stand (Inhibited us) i = (if has us i then by_inhibit else nothing, false)
+stand (Giving g r) i = (if eqb g i then by_grab else nothing, eqb r i)
 stand (Given r) i = (nothing, eqb r i)
 
 -- history has each user where the table has it, and each holding to each token as the token's state says
@@ -51,9 +51,9 @@ pub record Went (h : History) (d : Domain) (ev : Event) (o : Outcome) : Type 0 w
   pub limits : o.domain.limits ≡ d.limits
 
 -- what a request does goes well; one that is ignored leaves nothing to show
-abbrev pub fine : History → Domain → Event → Effect Domain → Type 0
-fine h d ev ignored = Unit {0}
-fine h d ev (done e rs) = Went h d ev (record { reply = 0; domain = e; sent = rs })
+abbrev pub Fine : History → Domain → Event → Effect Domain → Type 0
+Fine h d ev ignored = Unit {0}
+Fine h d ev (done e rs) = Went h d ev (record { reply = 0; domain = e; sent = rs })
 
 module _ (h : History) (d : Domain) (a : Agrees h d.users d.tokens) (ev : Event) where
   -- an entry of which history reads nothing, and that leaves users and tokens alone
@@ -81,20 +81,20 @@ module _ (h : History) (d : Domain) (a : Agrees h d.users d.tokens) (ev : Event)
       go true = stay 9 refl
       go false = w
 
-  pub ends_fine : (room : ℕ) (x : Effect Domain) → fine h d ev x → Went h d ev (ends d room x)
+  pub ends_fine : (room : ℕ) (x : Effect Domain) → Fine h d ev x → Went h d ev (ends d room x)
   unfolding ends
   ends_fine room ignored f = stay 1 refl
   ends_fine room (done e rs) f = sends_fine room e rs f
 
   -- a message that history does not read, answered by records that it does not read
-  pub calm : asks ev ≡ unread → (e : Domain) (rs : List Sent) → e.users ≡ d.users → e.tokens ≡ d.tokens → e.limits ≡ d.limits → all mute rs ≡ true → fine h d ev (done e rs)
+  pub calm : asks ev ≡ unread → (e : Domain) (rs : List Sent) → e.users ≡ d.users → e.tokens ≡ d.tokens → e.limits ≡ d.limits → all mute rs ≡ true → Fine h d ev (done e rs)
   calm q e rs us ts ls m = quiet _ (idle_unread _ q) m us ts ls
 
   -- the place of an initiator; `put` puts the tables that the request may change back into the domain
   pub from_fine : {A : Type 0} (put : (A → Domain)) (p u : ℕ) (f : (ℕ → Effect A))
-      → ((i : ℕ) → find d.users.ids u ≡ At i → link d.users i ≡ p → fine h d ev (within put (f i))) → fine h d ev (within put (from d.users p u f))
+      → ((i : ℕ) → find d.users.ids u ≡ At i → link d.users i ≡ p → Fine h d ev (within put (f i))) → Fine h d ev (within put (from d.users p u f))
   unfolding within
-  from_fine put p u f w = from_by (λ x. fine h d ev (within put x)) tt d.users p u f w
+  from_fine put p u f w = from_by (λ x. Fine h d ev (within put x)) tt d.users p u f w
 
 -- ---- an event about one token: a record with the word sw for a user x, a request with the word aw by a user y
 
@@ -103,8 +103,8 @@ abbrev pub shifts : (sw aw : Word) (x y : Bool) → Mark → Mark
 shifts sw aw x y m = heard (x && same grabs sw) (x && same inhibits sw) (y && same accepts aw) (y && same declines aw) (x && same yields sw) (x && same offers sw) false m
 
 -- a word that history reads of a record
-abbrev pub read_word : Word → Type 0
-read_word w = (x : Word) → mutes x ≡ true → same w x ≡ false
+abbrev pub ReadWord : Word → Type 0
+ReadWord w = (x : Word) → mutes x ≡ true → same w x ≡ false
 
 module _ (h : History) (us : Users) (ts : Tokens) (a : Agrees h us ts) (few : length us.ids ≤ 64) (e : Entry) (after : Tokens) (k₀ x y : ℕ) (sw aw : Word) (was now : Holding) where
   -- it is enough to compare, place by place, how the state before and the state after stand
@@ -114,7 +114,7 @@ module _ (h : History) (us : Users) (ts : Tokens) (a : Agrees h us ts) (few : le
       → (c i : ℕ) → find us.ids x ≡ At c → find us.ids y ≡ At i
       → ((u : ℕ) → leaves e (home h u) u ≡ false)
       → ((u : ℕ) → home (e ▹ h) u ≡ home h u)
-      → ((w : Word) → read_word w → (u k : ℕ) → told e w u k ≡ (eqb k k₀ && eqb u x && same w sw))
+      → ((w : Word) → ReadWord w → (u k : ℕ) → told e w u k ≡ (eqb k k₀ && eqb u x && same w sw))
       → ((w : Word) → same w other ≡ false → (u k : ℕ) → said e (home h u) w u k ≡ (eqb k k₀ && eqb u y && same w aw))
       → ((j : ℕ) → j < 64 → shifts sw aw (eqb c j) (eqb i j) (stand was j) ≡ stand now j)
       → Agrees (e ▹ h) us after

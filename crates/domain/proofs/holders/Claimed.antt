@@ -20,7 +20,7 @@ use Rattle.domain.specs.Tables.{Users, Domain, name, state, is_free}
 use Rattle.domain.specs.declared.token.Holding.{Holding}
 use Rattle.domain.specs.declared.token.Holding.TheVariants.{Free, Grabbed, Inhibited, Giving, Given}
 use Rattle.domain.specs.Cells.{no_token, hold}
-use Rattle.domain.specs.History.{History, gain, open_offer, Gain, nothing, by-grab, by-inhibit, by-offer, held, alone, busy, count, every_id}
+use Rattle.domain.specs.History.{History, gain, open_offer, Gain, nothing, by_grab, by_inhibit, by_offer, held, alone, busy, count, every_id}
 use Rattle.domain.specs.Claims.{holds, holder}
 use Rattle.domain.proofs.invariant.Sound.{free_is, Seated, Held, Sound}
 use Rattle.domain.proofs.invariant.Held.{state_held}
@@ -32,16 +32,16 @@ use Rattle.domain.proofs.holders.Counting.{count_to, count_upto, count_same, cou
 held_flat : (g : Gain) → held (flat g) ≡ held g
 unfolding held flat
 held_flat nothing = refl
-held_flat by-grab = refl
-held_flat by-inhibit = refl
-held_flat by-offer = refl
+held_flat by_grab = refl
+held_flat by_inhibit = refl
+held_flat by_offer = refl
 
 alone_flat : (g : Gain) → alone (flat g) ≡ alone g
 unfolding alone flat
 alone_flat nothing = refl
-alone_flat by-grab = refl
-alone_flat by-inhibit = refl
-alone_flat by-offer = refl
+alone_flat by_grab = refl
+alone_flat by_inhibit = refl
+alone_flat by_offer = refl
 
 -- ---- one token
 
@@ -53,17 +53,17 @@ held_if x e false = refl
 stand_holds : (h : Holding) (i : ℕ) → held (stand h i).0 ≡ holds h i
 unfolding held stand holds
 stand_holds Free i = refl
-stand_holds (Grabbed g) i = held_if by-grab refl (eqb g i)
-stand_holds (Inhibited us) i = held_if by-inhibit refl (has us i)
-stand_holds (Giving g r) i = held_if by-grab refl (eqb g i)
+stand_holds (Grabbed g) i = held_if by_grab refl (eqb g i)
+stand_holds (Inhibited us) i = held_if by_inhibit refl (has us i)
+stand_holds (Giving g r) i = held_if by_grab refl (eqb g i)
 stand_holds (Given r) i = refl
 
 -- who stands alone is the only one
-one_grabber : (g i j : ℕ) → alone (if eqb g i then by-grab else nothing) ≡ true → eqb g j ≡ true → j ≡ i
+one_grabber : (g i j : ℕ) → alone (if eqb g i then by_grab else nothing) ≡ true → eqb g j ≡ true → j ≡ i
 unfolding alone
 one_grabber g i j p q = go (eqb g i) refl p
   where
-    go : (b : Bool) → eqb g i ≡ b → alone (if b then by-grab else nothing) ≡ true → j ≡ i
+    go : (b : Bool) → eqb g i ≡ b → alone (if b then by_grab else nothing) ≡ true → j ≡ i
     go true e r = sym (eqb-true g j q) ∙ eqb-true g i e
     go false e r = absurd (false≢true r)
 
@@ -73,7 +73,7 @@ stand_alone Free i j p q = absurd (false≢true p)
 stand_alone (Grabbed g) i j p q = one_grabber g i j p q
 stand_alone (Inhibited us) i j p q = go (has us i) p
   where
-    go : (b : Bool) → alone (if b then by-inhibit else nothing) ≡ true → j ≡ i
+    go : (b : Bool) → alone (if b then by_inhibit else nothing) ≡ true → j ≡ i
     go true r = absurd (false≢true r)
     go false r = absurd (false≢true r)
 stand_alone (Giving g x) i j p q = one_grabber g i j p q

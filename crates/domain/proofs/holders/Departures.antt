@@ -25,14 +25,14 @@ use Rattle.domain.specs.Effects.{ignored}
 use Rattle.domain.specs.Leaving.{farewell, leave, those_on, detach, close}
 use Rattle.domain.specs.Channels.{places}
 use Rattle.domain.specs.History.{Entry, History, ◌▹◌, Word, detaches, closes, accepts, declines, code, same, is, sign, reading, asks, link_of, said, closed, leaves}
-use Rattle.domain.specs.History.{home, nothing, by-grab}
+use Rattle.domain.specs.History.{home, nothing, by_grab}
 use Rattle.domain.proofs.Sending.{farewell_all}
 use Rattle.domain.proofs.invariant.Sound.{Sound}
 use Rattle.domain.proofs.invariant.Leavers.{gone_is}
 use Rattle.domain.proofs.invariant.Held.{lose_held}
 use Rattle.domain.proofs.holders.Known.{state_swept, unless, find_left, link_left}
 use Rattle.domain.proofs.holders.Heard.{Mark, mark_mute, leaves_none, mute, mutes, arrives_none}
-use Rattle.domain.proofs.holders.Agrees.{Agrees, fine, seen, nobody, stand}
+use Rattle.domain.proofs.holders.Agrees.{Agrees, Fine, seen, nobody, stand}
 use Rattle.domain.proofs.holders.Requests.{stand_inhibited}
 
 -- ---- the records are not read
@@ -50,7 +50,7 @@ stand_lose gone i l q h = go h
     stays : (g : ℕ) → has gone g ≡ true → eqb g i ≡ false
     stays g e = ne_eqb g i (λ r. true≢false (sym e ∙ ap (has gone) r ∙ q))
 
-    holder : (g : ℕ) (b : Bool) → has gone g ≡ b → stand (if b then Free else Grabbed g) i ≡ (if eqb g i then by-grab else nothing, false)
+    holder : (g : ℕ) (b : Bool) → has gone g ≡ b → stand (if b then Free else Grabbed g) i ≡ (if eqb g i then by_grab else nothing, false)
     holder g true e = rw (stays g e)
     holder g false e = refl
 
@@ -58,7 +58,7 @@ stand_lose gone i l q h = go h
     recipient r true e = rw (stays r e)
     recipient r false e = refl
 
-    both : (g r : ℕ) (b : Bool) → has gone g ≡ b → (c : Bool) → has gone r ≡ c → stand (lose_offer b c g r) i ≡ (if eqb g i then by-grab else nothing, eqb r i)
+    both : (g r : ℕ) (b : Bool) → has gone g ≡ b → (c : Bool) → has gone r ≡ c → stand (lose_offer b c g r) i ≡ (if eqb g i then by_grab else nothing, eqb r i)
     both g r true e true f = rw (stays g e, stays r f)
     both g r true e false f = rw (stays g e)
     both g r false e true f = rw (stays r f)
@@ -120,7 +120,7 @@ module _ (h : History) (d : Domain) (g : Sound d) (a : Agrees h d.users d.tokens
   leave_fine : (ev : Event) (live reason : ℕ) (ids : List ℕ)
       → ((rs : List Sent) (w : Word) → same w detaches ≡ false → (u k : ℕ) → said (record { event = ev; reply = 0; sent = rs }) (home h u) w u k ≡ false)
       → ((rs : List Sent) (u : ℕ) → leaves (record { event = ev; reply = 0; sent = rs }) (home h u) u ≡ seen (find d.users.ids u) false (has (places d.users ids)))
-      → fine h d ev (leave d live reason ids)
+      → Fine h d ev (leave d live reason ids)
   unfolding leave
   leave_fine ev live reason ids unsaid away = record {
     agrees = left_agrees h d g a ev (places d.users ids) (farewell d (places d.users ids) live reason ids) (farewell_mute d _ live reason ids) (unsaid _) (away _);
@@ -152,11 +152,11 @@ module _ (h : History) (d : Domain) (g : Sound d) (a : Agrees h d.users d.tokens
     leaves_detach x u = rw (and-false (eqb p x), and-true (member u ids), member_once u ids) (or-false (eqb p x && member u ids))
 
   -- those listed who are on its connection leave
-  pub detach_fine : (p n : ℕ) (ids : List ℕ) → fine h d (hears p (reads (DUrq n ids))) (detach d p n ids)
+  pub detach_fine : (p n : ℕ) (ids : List ℕ) → Fine h d (hears p (reads (DUrq n ids))) (detach d p n ids)
   unfolding detach
   detach_fine p n ids = go (null (those_on d.users p (once ids)))
     where
-      go : (b : Bool) → fine h d (hears p (reads (DUrq n ids))) (if b then ignored else leave d d.links n (those_on d.users p (once ids)))
+      go : (b : Bool) → Fine h d (hears p (reads (DUrq n ids))) (if b then ignored else leave d d.links n (those_on d.users p (once ids)))
       go true = tt
       go false =
           leave_fine _ d.links n (those_on d.users p (once ids)) (λ rs w q u k. said_detach p n ids rs (home h u) w u k q)
@@ -180,7 +180,7 @@ module _ (h : History) (d : Domain) (g : Sound d) (a : Agrees h d.users d.tokens
           rw (said_close (some x) detaches u 0, closing, on, in_order_has d.users.ids u (rw r.0 at (member_at d.users.ids i r.1)) r.2)
 
     -- those on the connection leave
-    pub close_fine : fine h d ev (close d p)
+    pub close_fine : Fine h d ev (close d p)
     unfolding close
     close_fine =
         leave_fine ev (without connections d.links p) 0 (those_on d.users p (in_order d.users.ids)) (λ rs w q u k. said_close rs (home h u) w u k)

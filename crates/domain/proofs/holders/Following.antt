@@ -12,7 +12,7 @@ use Rattle.codec_table.specs.Named.{Message, EDrq, DPum, RJum, AUrq, AUcf, DUrq,
 use Rattle.codec_table.specs.Named.{TGrq, TGcf, TIrq, TIcf, TVrq, TVin, TVrs, TVcf, TPrq, TPin, TRrq, TRcf, TTrq, TTcf, formed as formed_message}
 use Rattle.codec_table.proofs.NamedLaws.{ranges}
 use Rattle.out_records.specs.Records.{records}
-use Rattle.domain.specs.Tables.{Domain, state, hosts, put_links, put_tokens, Free_id}
+use Rattle.domain.specs.Tables.{Domain, state, hosts, put_links, put_tokens, FreeId}
 use Rattle.domain.specs.Events.{channels_full, Event, opens, loses, hears, reads, refuses, act, ends, sends, stays, answers, complaint, step_with}
 use Rattle.domain.specs.Tokens.{party}
 use Rattle.domain.specs.Effects.{within}
@@ -25,7 +25,7 @@ use Rattle.domain.proofs.Sending.{complaint_all}
 use Rattle.domain.proofs.invariant.Sound.{Sound, free_parts}
 use Rattle.domain.proofs.invariant.GoodIsSound.{good_sound}
 use Rattle.domain.proofs.holders.Heard.{mute, mutes, idle_unread}
-use Rattle.domain.proofs.holders.Agrees.{Agrees, Went, fine, quiet, stay, calm, ends_fine, from_fine}
+use Rattle.domain.proofs.holders.Agrees.{Agrees, Went, Fine, quiet, stay, calm, ends_fine, from_fine}
 use Rattle.domain.proofs.holders.Requests.{take_fine, share_fine, drop_fine}
 use Rattle.domain.proofs.holders.Offers.{offer_fine, answer_fine}
 use Rattle.domain.proofs.holders.Silent.{tell_mute, join_fine, leave_channels_fine, convene_fine, disband_fine, admit_fine, expel_fine}
@@ -33,7 +33,7 @@ use Rattle.domain.proofs.holders.Departures.{detach_fine, close_fine}
 use Rattle.domain.proofs.holders.Newcomers.{attach_fine}
 
 module _ (h : History) (d : Domain) (g : Sound d) (a : Agrees h d.users d.tokens) (new : ℕ) (nz : 0 < new) (away : (j : ℕ) → get_or d.channels.ids j 0 ≡ new → ⊥) where
-  act_fine : (p : ℕ) (m : Message) → formed_message m ≡ true → fine h d (hears p (reads m)) (act new d p m)
+  act_fine : (p : ℕ) (m : Message) → formed_message m ≡ true → Fine h d (hears p (reads m)) (act new d p m)
   unfolding act reading asks link_of all mute mutes same code within please test
   act_fine p (EDrq x y) f = calm h d a _ refl d [] refl refl refl refl
   act_fine p (DPum n) f = close_fine h d g a _ p refl refl
@@ -99,7 +99,7 @@ module _ (h : History) (d : Domain) (g : Sound d) (a : Agrees h d.users d.tokens
 
 -- for any maker's choice of a new id
 pub agrees_step : (h : History) (d : Domain) → Good d → Agrees h d.users d.tokens → (new : ℕ)
-    → Free_id d new → (e : Event) (room : ℕ) → So (formed e) → Went h d e (step_with new d e room)
+    → FreeId d new → (e : Event) (room : ℕ) → So (formed e) → Went h d e (step_with new d e room)
 agrees_step h d g a new free e room f =
     let b = free_parts d new free in
     follows h d (good_sound d g) a new (omega (arith, b.0)) b.2 e room f

@@ -11,15 +11,15 @@ use Rattle.cols_spec.specs.Sets.{any, all, member}
 use Rattle.out_records.specs.Records.{Sent, to}
 use Rattle.cols_spec.proofs.Bools.{and_parts}
 use Rattle.domain.specs.History.{Entry, History, ◌▹◌, Word, attaches, detaches, closes, grabs, inhibits, yields, offers, accepts, declines, full, other, code, unread}
-use Rattle.domain.specs.History.{reading, asks, link_of, same, is, told, said, closed, leaves, arrives, home, open_offer, gain, Gain, nothing, by-grab, by-inhibit}
-use Rattle.domain.specs.History.{by-offer}
+use Rattle.domain.specs.History.{reading, asks, link_of, same, is, told, said, closed, leaves, arrives, home, open_offer, gain, Gain, nothing, by_grab, by_inhibit}
+use Rattle.domain.specs.History.{by_offer}
 
 -- a gain by an accepted offer counts as one by a grab
 unfoldable pub flat : Gain → Gain
 flat nothing = nothing
-flat by-grab = by-grab
-flat by-inhibit = by-inhibit
-flat by-offer = by-grab
+flat by_grab = by_grab
+flat by_inhibit = by_inhibit
+flat by_offer = by_grab
 
 -- how a user holds a token, and whether an offer of it to the user is open
 abbrev pub Mark : Type 0
@@ -32,13 +32,13 @@ mark h k u = (flat (gain h k u), open_offer h k u)
 -- what is heard of u and the token: a grab, an inhibit, an acceptance, a refusal, a loss, an offer, a leaving
 abbrev pub heard : (a b c n y t l : Bool) → Mark → Mark
 heard a b c n y t l m = (
-  if a then by-grab else if b then by-inhibit else if c && m.1 then by-grab else if y || l then nothing else m.0,
+  if a then by_grab else if b then by_inhibit else if c && m.1 then by_grab else if y || l then nothing else m.0,
   if t then true else if c || n || l then false else m.1,
 )
 
 flat_gain : (a b c y : Bool) (g : Gain)
-    → flat (if a then by-grab else if b then by-inhibit else if c then by-offer else if y then nothing else g)
-    ≡ (if a then by-grab else if b then by-inhibit else if c then by-grab else if y then nothing else flat g)
+    → flat (if a then by_grab else if b then by_inhibit else if c then by_offer else if y then nothing else g)
+    ≡ (if a then by_grab else if b then by_inhibit else if c then by_grab else if y then nothing else flat g)
 unfolding flat
 flat_gain true b c y g = refl
 flat_gain false true c y g = refl

@@ -29,7 +29,7 @@ use Rattle.domain.specs.History.{Entry, History, ◌▹◌, attaches, grabs, inh
 use Rattle.domain.proofs.invariant.Sound.{Seated, Held, Sound, limits_le}
 use Rattle.domain.proofs.invariant.Held.{state_held}
 use Rattle.domain.proofs.holders.Heard.{mark, mark_step, idle, idle_unread, said_idle, leaves_idle, mute, mutes}
-use Rattle.domain.proofs.holders.Agrees.{Agrees, fine, calm, seen, nobody, stand}
+use Rattle.domain.proofs.holders.Agrees.{Agrees, Fine, calm, seen, nobody, stand}
 use Rattle.domain.proofs.holders.Requests.{told_one}
 
 -- nobody at a free place stands to a token
@@ -125,26 +125,26 @@ module _ (h : History) (d : Domain) (g : Sound d) (a : Agrees h d.users d.tokens
         hold k u false q = a.marks k u
 
   -- the requests that fail change nothing; else the new user is attached
-  pub attach_fine : fine h d ev (within (put_both d) (attach new (users_full d) (channels_full d) us d.channels p))
+  pub attach_fine : Fine h d ev (within (put_both d) (attach new (users_full d) (channels_full d) us d.channels p))
   unfolding attach users_full at_limit asks reading all mute mutes same code spare within
   attach_fine = go (users_full d) refl (channels_full d)
     where
       refused : ℕ → Effect (Users × Channels)
       refused n = done (us, d.channels) (to p (AUcf n none) ∷ [])
 
-      refused_fine : (n : ℕ) → fine h d ev (within (put_both d) (refused n))
+      refused_fine : (n : ℕ) → Fine h d ev (within (put_both d) (refused n))
       refused_fine n = calm h d a ev refl (put_both d (us, d.channels)) _ refl refl refl refl
 
       come : Effect (Users × Channels)
       come = done (add_user us new p, add_channel d.channels new (channel_of User 0)) (to p (AUcf successful (some new)) ∷ [])
 
-      come_fine : used us.ids < d.limits.users → fine h d ev (within (put_both d) come)
+      come_fine : used us.ids < d.limits.users → Fine h d ev (within (put_both d) come)
       come_fine few =
           let r = spare_there us.ids (omega (arith, few, (limits_le d.limits g.limits_ok).1, g.users_are.ids_size)) in
           record { agrees = new_agrees few r.0 r.1; limits = refl }
 
       go : (b : Bool) → leb d.limits.users (used us.ids) ≡ b → (c : Bool)
-          → fine h d ev (within (put_both d) (if b then refused too_many_users else if c then refused too_many_channels else come))
+          → Fine h d ev (within (put_both d) (if b then refused too_many_users else if c then refused too_many_channels else come))
       go true q c = refused_fine too_many_users
       go false q true = refused_fine too_many_channels
       go false q false = come_fine (leb-false d.limits.users (used us.ids) q)

@@ -21,12 +21,12 @@ use Rattle.domain.specs.Events.{Event, hears, reads}
 use Rattle.domain.specs.Effects.{Effect, ignored, done, within}
 use Rattle.domain.specs.Passing.{offer, answer, informed}
 use Rattle.domain.specs.History.{Entry, History, ◌▹◌, Word, attaches, yields, offers, accepts, declines, other, code, same, is, reading, asks, link_of, told, said}
-use Rattle.domain.specs.History.{closed, leaves, arrives, home, nothing, by-grab}
+use Rattle.domain.specs.History.{closed, leaves, arrives, home, nothing, by_grab}
 use Rattle.domain.proofs.invariant.Sound.{Held, Sound}
 use Rattle.domain.proofs.invariant.Held.{answered_held, state_held}
 use Rattle.domain.proofs.holders.Known.{found_seated, seated_at, state_then}
 use Rattle.domain.proofs.holders.Heard.{mute, mutes}
-use Rattle.domain.proofs.holders.Agrees.{Agrees, fine, calm, from_fine, stand, shifts, read_word, token_agrees}
+use Rattle.domain.proofs.holders.Agrees.{Agrees, Fine, calm, from_fine, stand, shifts, ReadWord, token_agrees}
 use Rattle.domain.proofs.holders.Requests.{written, told_one, home_one}
 
 -- ---- TVrq
@@ -41,7 +41,7 @@ grabbed_is (Giving g r) i e = absurd (false≢true e)
 grabbed_is (Given r) i e = absurd (false≢true e)
 
 -- the giver keeps it, and the offer is open
-offer_places : (b c : Bool) → shifts offers other c b (if b then by-grab else nothing, false) ≡ (if b then by-grab else nothing, c)
+offer_places : (b c : Bool) → shifts offers other c b (if b then by_grab else nothing, false) ≡ (if b then by_grab else nothing, c)
 unfolding same code
 offer_places true true = refl
 offer_places true false = refl
@@ -50,7 +50,7 @@ offer_places false false = refl
 
 module _ (h : History) (d : Domain) (g : Sound d) (a : Agrees h d.users d.tokens) (p u k r : ℕ) (kz : 1 ≤ k) where
   -- TVin opens the offer; a refused TVrq says nothing
-  pub offer_fine : fine h d (hears p (reads (TVrq u k r))) (within (put_tokens d) (offer d.users d.tokens p u k r))
+  pub offer_fine : Fine h d (hears p (reads (TVrq u k r))) (within (put_tokens d) (offer d.users d.tokens p u k r))
   unfolding offer asks reading all mute mutes same code stand is_free within
   offer_fine = from_fine h d a ev (put_tokens d) p u _ (λ i mine on. go i mine (grabbed_by (state d.tokens k) i) refl)
     where
@@ -60,14 +60,14 @@ module _ (h : History) (d : Domain) (g : Sound d) (a : Agrees h d.users d.tokens
       refused : (i n : ℕ) → Effect Tokens
       refused i n = done d.tokens (to p (TVcf n u k (status (state d.tokens k) i)) ∷ [])
 
-      refused_fine : (i n : ℕ) → eqb n successful ≡ false → fine h d ev (within (put_tokens d) (refused i n))
+      refused_fine : (i n : ℕ) → eqb n successful ≡ false → Fine h d ev (within (put_tokens d) (refused i n))
       refused_fine i n q = calm h d a ev refl (put_tokens d d.tokens) _ refl refl refl (rw q)
 
       -- the recipient
       chosen : ℕ → Place → Effect Tokens
       chosen i x = elim x [ At j ↦ done (set_token d.tokens k (Giving i j)) (to (link d.users j) (TVin u k r) ∷ []) | Nowhere ↦ refused i no_such_user ]
 
-      to_whom : (i : ℕ) → find d.users.ids u ≡ At i → state d.tokens k ≡ Grabbed i → (x : Place) → find d.users.ids r ≡ x → fine h d ev (within (put_tokens d) (chosen i x))
+      to_whom : (i : ℕ) → find d.users.ids u ≡ At i → state d.tokens k ≡ Grabbed i → (x : Place) → find d.users.ids r ≡ x → Fine h d ev (within (put_tokens d) (chosen i x))
       to_whom i mine s (At j) q =
           written h d g a ev refl (link d.users j) k r j u i (TVin u k r) offers (Giving i j) refl refl kz q mine
           (λ n l. rw s (offer_places (eqb i n) (eqb j n)))
@@ -75,7 +75,7 @@ module _ (h : History) (d : Domain) (g : Sound d) (a : Agrees h d.users d.tokens
       to_whom i mine s Nowhere q = refused_fine i no_such_user refl
 
       go : (i : ℕ) → find d.users.ids u ≡ At i → (b : Bool) → grabbed_by (state d.tokens k) i ≡ b
-          → fine h d ev (within (put_tokens d) (if b then chosen i (find d.users.ids r) else refused i token_not_possessed))
+          → Fine h d ev (within (put_tokens d) (if b then chosen i (find d.users.ids r) else refused i token_not_possessed))
       go i mine true q = to_whom i mine (grabbed_is (state d.tokens k) i q) (find d.users.ids r) refl
       go i mine false q = refused_fine i token_not_possessed refl
 
@@ -119,7 +119,7 @@ unfolding stand responded same code
 giving_law b x i j = go b (eqb x j) (eqb i j) refl refl
   where
     go : (b c f : Bool) → eqb x j ≡ c → eqb i j ≡ f
-        → shifts (if b then yields else other) (if b then accepts else declines) (eqb x j) (eqb i j) (if eqb x j then by-grab else nothing, eqb i j) ≡ stand (responded b (Giving x i) i) j
+        → shifts (if b then yields else other) (if b then accepts else declines) (eqb x j) (eqb i j) (if eqb x j then by_grab else nothing, eqb i j) ≡ stand (responded b (Giving x i) i) j
     go true true true q r = rw (q, r)
     go true true false q r = rw (q, r)
     go true false true q r = rw (q, r)
@@ -151,9 +151,9 @@ module _ (h : History) (d : Domain) (g : Sound d) (a : Agrees h d.users d.tokens
     settles : (was : Holding) (rs : List Sent) (x c : ℕ) (sw : Word)
         → state d.tokens k ≡ was → is_free was ≡ false → find d.users.ids x ≡ At c
         → ((u : ℕ) → leaves (answers p n r k rs) (home h u) u ≡ false → home (answers p n r k rs ▹ h) u ≡ home h u)
-        → ((w : Word) → read_word w → (u j : ℕ) → told (answers p n r k rs) w u j ≡ (eqb j k && eqb u x && same w sw))
+        → ((w : Word) → ReadWord w → (u j : ℕ) → told (answers p n r k rs) w u j ≡ (eqb j k && eqb u x && same w sw))
         → ((j : ℕ) → shifts sw (reply_word p n r k rs) (eqb c j) (eqb i j) (stand was j) ≡ stand (responded (eqb n successful) was i) j)
-        → fine h d ev (done (put_tokens d (set_token d.tokens k (responded (eqb n successful) was i))) rs)
+        → Fine h d ev (done (put_tokens d (set_token d.tokens k (responded (eqb n successful) was i))) rs)
     settles was rs x c sw s busy theirs homely tells law = record {
       agrees = token_agrees h d.users d.tokens a (omega (arith, g.users_are.ids_size)) (answers p n r k rs) (set_token d.tokens k now) k x r sw (reply_word p n r k rs) was now
           s (state_then d g k now kz seated (λ z y. absurd (false≢true (sym busy ∙ ap is_free (sym s) ∙ z)))) c i theirs mine here (λ u. homely u (here u)) tells
@@ -179,7 +179,7 @@ module _ (h : History) (d : Domain) (g : Sound d) (a : Agrees h d.users d.tokens
     abbrev effect : Holding → Effect Tokens
     effect s = done (set_token d.tokens k (responded (eqb n successful) s i)) (informed d.users n k s (responded (eqb n successful) s i))
 
-    from_giving : (x : ℕ) → state d.tokens k ≡ Giving x i → fine h d ev (within (put_tokens d) (effect (Giving x i)))
+    from_giving : (x : ℕ) → state d.tokens k ≡ Giving x i → Fine h d ev (within (put_tokens d) (effect (Giving x i)))
     unfolding reading is_free informed within
     from_giving x s =
         settles (Giving x i) (to (link d.users x) m ∷ []) (name d.users x) x (if eqb n successful then yields else other)
@@ -191,7 +191,7 @@ module _ (h : History) (d : Domain) (g : Sound d) (a : Agrees h d.users d.tokens
         m : Message
         m = TVcf n (name d.users x) k (status (responded (eqb n successful) (Giving x i) i) x)
 
-    from_given : state d.tokens k ≡ Given i → fine h d ev (within (put_tokens d) (effect (Given i)))
+    from_given : state d.tokens k ≡ Given i → Fine h d ev (within (put_tokens d) (effect (Given i)))
     unfolding told any home arrives is_free mutes same code informed within
     from_given s =
         settles (Given i) [] r i other s refl mine
@@ -200,13 +200,13 @@ module _ (h : History) (d : Domain) (g : Sound d) (a : Agrees h d.users d.tokens
         (λ j. given_law (eqb n successful) i j)
 
     -- from a state that names the recipient y
-    from_offer : (make : (ℕ → Holding)) → (state d.tokens k ≡ make i → fine h d ev (within (put_tokens d) (effect (make i))))
-        → (y : ℕ) → state d.tokens k ≡ make y → (b : Bool) → eqb y i ≡ b → fine h d ev (within (put_tokens d) (if b then effect (make y) else ignored))
+    from_offer : (make : (ℕ → Holding)) → (state d.tokens k ≡ make i → Fine h d ev (within (put_tokens d) (effect (make i))))
+        → (y : ℕ) → state d.tokens k ≡ make y → (b : Bool) → eqb y i ≡ b → Fine h d ev (within (put_tokens d) (if b then effect (make y) else ignored))
     unfolding within
     from_offer make f y s true q = rw (eqb-true y i q) (f (s ∙ ap make (eqb-true y i q)))
     from_offer make f y s false q = tt
 
-    from_state : (s : Holding) → state d.tokens k ≡ s → fine h d ev (within (put_tokens d) (if offered_to s i then effect s else ignored))
+    from_state : (s : Holding) → state d.tokens k ≡ s → Fine h d ev (within (put_tokens d) (if offered_to s i then effect s else ignored))
     unfolding offered_to within
     from_state Free s = tt
     from_state (Grabbed x) s = tt
@@ -215,6 +215,6 @@ module _ (h : History) (d : Domain) (g : Sound d) (a : Agrees h d.users d.tokens
     from_state (Given y) s = from_offer Given from_given y s (eqb y i) refl
 
   -- the answer closes the offer, and TVcf takes the token from the giver
-  pub answer_fine : fine h d ev (within (put_tokens d) (answer d.users d.tokens p n r k))
+  pub answer_fine : Fine h d ev (within (put_tokens d) (answer d.users d.tokens p n r k))
   unfolding answer
   answer_fine = from_fine h d a ev (put_tokens d) p r _ (λ i mine on. from_state i mine on (state d.tokens k) refl)

@@ -21,12 +21,12 @@ use Rattle.domain.specs.Tokens.{Turned, fails, turns, grab, inhibit, release, in
 use Rattle.domain.specs.Effects.{done, from, within}
 use Rattle.domain.specs.Passing.{turn, take_token, share_token, drop_token}
 use Rattle.domain.specs.History.{Entry, History, ◌▹◌, Word, attaches, grabs, inhibits, yields, full, other, code, same, is, sign, unread, reading, asks, told, said}
-use Rattle.domain.specs.History.{leaves, arrives, home, if_done, if_told, Gain, nothing, by-grab, by-inhibit}
+use Rattle.domain.specs.History.{leaves, arrives, home, if_done, if_told, Gain, nothing, by_grab, by_inhibit}
 use Rattle.domain.proofs.invariant.Sound.{Seated, Sound}
 use Rattle.domain.proofs.invariant.Held.{Right, grab_right, inhibit_right, release_right, state_held}
 use Rattle.domain.proofs.holders.Known.{found_seated, state_then}
 use Rattle.domain.proofs.holders.Heard.{mute, mutes, idle, idle_unread, said_idle, leaves_idle}
-use Rattle.domain.proofs.holders.Agrees.{Agrees, fine, calm, from_fine, stand, shifts, token_agrees}
+use Rattle.domain.proofs.holders.Agrees.{Agrees, Fine, calm, from_fine, stand, shifts, token_agrees}
 
 -- ---- one token
 
@@ -49,7 +49,7 @@ no_gain false = refl
 pub grab_kept : (limit : Bool) (h : Holding) (i : ℕ) → Kept grabs h i (grab limit h i)
 unfolding grab stand same code
 grab_kept true Free i = refl
-grab_kept false Free i = λ j l. rw (no_gain (eqb i j)) at (own_place grabs nothing by-grab false refl (eqb i j))
+grab_kept false Free i = λ j l. rw (no_gain (eqb i j)) at (own_place grabs nothing by_grab false refl (eqb i j))
 grab_kept limit (Grabbed g) i = refl
 grab_kept limit (Inhibited us) i = go (eqb us (only seats i)) refl
   where
@@ -57,7 +57,7 @@ grab_kept limit (Inhibited us) i = go (eqb us (only seats i)) refl
     same_set j l e = ap (λ (m : ℕ). has m j) (eqb-true us (only seats i) e) ∙ has_only 64 i j l
 
     go : (b : Bool) → eqb us (only seats i) ≡ b → Kept grabs (Inhibited us) i (if b then turns (Grabbed i) else fails token_not_available)
-    go true e = λ j l. rw (same_set j l e) (own_place grabs by-inhibit by-grab false refl (eqb i j))
+    go true e = λ j l. rw (same_set j l e) (own_place grabs by_inhibit by_grab false refl (eqb i j))
     go false e = refl
 grab_kept limit (Giving g r) i = refl
 grab_kept limit (Given r) i = refl
@@ -66,15 +66,15 @@ grab_kept limit (Given r) i = refl
 pub inhibit_kept : (limit : Bool) (h : Holding) (i : ℕ) → Kept inhibits h i (inhibit limit h i)
 unfolding inhibit stand same code
 inhibit_kept true Free i = refl
-inhibit_kept false Free i = λ j l. rw (has_only 64 i j l) (rw (no_gain (eqb i j)) at (own_place inhibits nothing by-inhibit false refl (eqb i j)))
+inhibit_kept false Free i = λ j l. rw (has_only 64 i j l) (rw (no_gain (eqb i j)) at (own_place inhibits nothing by_inhibit false refl (eqb i j)))
 inhibit_kept limit (Grabbed g) i = go (eqb g i) refl
   where
     go : (b : Bool) → eqb g i ≡ b → Kept inhibits (Grabbed g) i (if b then turns (Inhibited (only seats i)) else fails token_not_available)
-    go true e = λ j l. rw (has_only 64 i j l, eqb-true g i e) (own_place inhibits by-grab by-inhibit false refl (eqb i j))
+    go true e = λ j l. rw (has_only 64 i j l, eqb-true g i e) (own_place inhibits by_grab by_inhibit false refl (eqb i j))
     go false e = refl
 inhibit_kept limit (Inhibited us) i = λ j l. rw (has_with 64 i j l us) (go (has us j) (eqb i j))
   where
-    go : (b c : Bool) → shifts inhibits other c c (if b then by-inhibit else nothing, false) ≡ (if b || c then by-inhibit else nothing, false)
+    go : (b c : Bool) → shifts inhibits other c c (if b then by_inhibit else nothing, false) ≡ (if b || c then by_inhibit else nothing, false)
     go true true = refl
     go true false = refl
     go false true = refl
@@ -89,9 +89,9 @@ stand_inhibited zero j = rw (has_high 0 0 j (omega arith) zero-le)
 stand_inhibited (suc m) j = rw (eqb-suc-zero m)
 
 -- the grabber holds it no longer
-grab_gone : (i j : ℕ) (c : Bool) → shifts yields other (eqb i j) (eqb i j) (if eqb i j then by-grab else nothing, c) ≡ (nothing, c)
+grab_gone : (i j : ℕ) (c : Bool) → shifts yields other (eqb i j) (eqb i j) (if eqb i j then by_grab else nothing, c) ≡ (nothing, c)
 unfolding same code
-grab_gone i j c = rw (no_gain (eqb i j)) at (own_place yields by-grab nothing c refl (eqb i j))
+grab_gone i j c = rw (no_gain (eqb i j)) at (own_place yields by_grab nothing c refl (eqb i j))
 
 -- TRrq
 pub release_kept : (h : Holding) (i : ℕ) → Kept yields h i (release h i)
@@ -104,7 +104,7 @@ release_kept (Grabbed g) i = go (eqb g i) refl
     go false e = refl
 release_kept (Inhibited us) i = go (has us i) refl
   where
-    each_place : (b c : Bool) → shifts yields other c c (if b then by-inhibit else nothing, false) ≡ (if b && not c then by-inhibit else nothing, false)
+    each_place : (b c : Bool) → shifts yields other c c (if b then by_inhibit else nothing, false) ≡ (if b && not c then by_inhibit else nothing, false)
     each_place true true = refl
     each_place true false = refl
     each_place false true = refl
@@ -148,7 +148,7 @@ module _ (h : History) (d : Domain) (g : Sound d) (a : Agrees h d.users d.tokens
       → find d.users.ids x ≡ At c → find d.users.ids y ≡ At i
       → ((j : ℕ) → j < 64 → shifts w other (eqb c j) (eqb i j) (stand (state d.tokens k) j) ≡ stand now j)
       → Right d.users (tokens_full d) (state d.tokens k) (turns now)
-      → fine h d ev (done (put_tokens d (set_token d.tokens k now)) (to p m ∷ []))
+      → Fine h d ev (done (put_tokens d (set_token d.tokens k now)) (to p m ∷ []))
   written p k x c y i m w now means n kz theirs mine law right = record {
     agrees = token_agrees h d.users d.tokens a (omega (arith, g.users_are.ids_size)) e (set_token d.tokens k now) k x y w other (state d.tokens k) now
         refl (state_then d g k now kz right.0 right.1) c i theirs mine here
@@ -172,12 +172,12 @@ module _ (h : History) (d : Domain) (g : Sound d) (a : Agrees h d.users d.tokens
       → ((s : ℕ) → reading (confirm 0 u k s) ≡ sign w (u ∷ []) k) → ((n s : ℕ) → eqb n 0 ≡ false → mutes (reading (confirm n u k s)).word ≡ true)
       → same attaches w ≡ false → 1 ≤ k
       → (t : (ℕ → Turned)) → ((i : ℕ) → Seated d.users i → Right d.users (tokens_full d) (state d.tokens k) (t i)) → ((i : ℕ) → Kept w (state d.tokens k) i (t i))
-      → fine h d ev (within (put_tokens d) (from d.users p u λ i. turn d.tokens p u i k confirm (t i)))
+      → Fine h d ev (within (put_tokens d) (from d.users p u λ i. turn d.tokens p u i k confirm (t i)))
   unfolding turn all mute within
   turn_fine p u k confirm w won lost n kz t right kept = from_fine h d a ev (put_tokens d) p u _ (λ i mine on. go i mine (t i) (right i (found_seated d.users u i mine)) (kept i))
     where
       go : (i : ℕ) → find d.users.ids u ≡ At i → (t : Turned) → Right d.users (tokens_full d) (state d.tokens k) t → Kept w (state d.tokens k) i t
-          → fine h d ev (within (put_tokens d) (turn d.tokens p u i k confirm t))
+          → Fine h d ev (within (put_tokens d) (turn d.tokens p u i k confirm t))
       go i mine (fails r) x f = calm h d a ev quiet (put_tokens d d.tokens) _ refl refl refl (rw (lost r (status (state d.tokens k) i) f))
       go i mine (turns now) x f = written p k u i u i (confirm 0 u k (status now i)) w now (won (status now i)) n kz mine mine f x
 
@@ -201,19 +201,19 @@ module _ (h : History) (d : Domain) (g : Sound d) (a : Agrees h d.users d.tokens
   abbrev was : Holding
   was = state d.tokens k
 
-  pub take_fine : fine h d (hears p (reads (TGrq u k))) (within (put_tokens d) (take_token (tokens_full d) d.users d.tokens p u k))
+  pub take_fine : Fine h d (hears p (reads (TGrq u k))) (within (put_tokens d) (take_token (tokens_full d) d.users d.tokens p u k))
   unfolding take_token asks reading same code
   take_fine =
       turn_fine h d g a _ refl p u k TGcf grabs (λ s. refl) (λ n s q. mute_told n grabs q) refl kz _
       (λ i s. grab_right d.users g.users_are.ids_size i s (tokens_full d) was (state_held d g k)) (grab_kept (tokens_full d) was)
 
-  pub share_fine : fine h d (hears p (reads (TIrq u k))) (within (put_tokens d) (share_token (tokens_full d) d.users d.tokens p u k))
+  pub share_fine : Fine h d (hears p (reads (TIrq u k))) (within (put_tokens d) (share_token (tokens_full d) d.users d.tokens p u k))
   unfolding share_token asks reading same code
   share_fine =
       turn_fine h d g a _ refl p u k TIcf inhibits (λ s. refl) (λ n s q. mute_told n inhibits q) refl kz _
       (λ i s. inhibit_right d.users g.users_are.ids_size i s (tokens_full d) was (state_held d g k)) (inhibit_kept (tokens_full d) was)
 
-  pub drop_fine : fine h d (hears p (reads (TRrq u k))) (within (put_tokens d) (drop_token d.users d.tokens p u k))
+  pub drop_fine : Fine h d (hears p (reads (TRrq u k))) (within (put_tokens d) (drop_token d.users d.tokens p u k))
   unfolding drop_token asks reading same code
   drop_fine =
       turn_fine h d g a _ refl p u k TRcf yields (λ s. refl) (λ n s q. mute_done n yields q) refl kz _

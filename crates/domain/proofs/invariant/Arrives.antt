@@ -71,7 +71,7 @@ module _ (us us' : Users) (keeps : (i : ℕ) → Seated us i → (get_or us'.ids
 
 module _ (d : Domain) (s : Sound d) where
   -- ---- a user
-  module _ (new : ℕ) (lo : 1001 ≤ new) (hi : new ≤ 65535) (away : (j : ℕ) → get_or d.channels.ids j 0 ≡ new → ⊥) (p : ℕ) (open-p : has d.links p ≡ true) where
+  module _ (new : ℕ) (lo : 1001 ≤ new) (hi : new ≤ 65535) (away : (j : ℕ) → get_or d.channels.ids j 0 ≡ new → ⊥) (p : ℕ) (open_p : has d.links p ≡ true) where
     -- below both limits
     attached_sound : users_full d ≡ false → channels_full d ≡ false → Sound (put_both d (add_user d.users new p, add_channel d.channels new (channel_of User 0)))
     unfolding add_user add_channel users_full at_limit
@@ -79,7 +79,7 @@ module _ (d : Domain) (s : Sound d) where
       limits_ok = s.limits_ok;
       links_fit = s.links_fit;
       users_are = table_add s.users_are _ few fits new p nz alone
-          (λ j. record { low = lo; high = hi; linked = open-p; owned = record { spot = own.0; id_is = own.1; kind_is = ap kind own.2 ∙ kind_of User 0 } })
+          (λ j. record { low = lo; high = hi; linked = open_p; owned = record { spot = own.0; id_is = own.1; kind_is = ap kind own.2 ∙ kind_of User 0 } })
           (λ i h r. record { low = r.low; high = r.high; linked = r.linked; owned = add_owned d s new nz away cf (channel_of User 0) _ h r.owned });
       channels_are = add_table d s new nz away cf (channel_of User 0) _
           (λ j. row_of d.links us' j new User 0 (marks_none 16) (lo, hi, record { who = seat.0; named = seat.1; marks = marks_none 16 }))

@@ -11,7 +11,7 @@ use Rattle.cols_spec.specs.Sets.{all}
 use Rattle.cols_spec.proofs.Bools.{and_parts, and_both}
 use Rattle.cols_spec.proofs.Order.{above, keep_le, unused_free}
 use Rattle.domain.specs.declared.Limits.{Limits}
-use Rattle.domain.specs.Tables.{Domain, fresh, grant, in_range, Free_id}
+use Rattle.domain.specs.Tables.{Domain, fresh, grant, in_range, FreeId}
 use Rattle.domain.specs.Events.{Event, step}
 use Rattle.domain.specs.Good.{Good}
 use Rattle.domain.specs.History.{nothing_yet, begins}
@@ -31,7 +31,7 @@ step_good d new e room g f h =
 
 module _ (d : Domain) (g : Good d) where
   -- it is free, and from 1001
-  pub grant_free : Free_id d (grant d.channels)
+  pub grant_free : FreeId d (grant d.channels)
   unfolding grant above
   grant_free =
       let l : length d.channels.ids ≡ 128 = (good_sound d g).channels_are.ids_size in

@@ -73,14 +73,14 @@ module _ (us : Users) (sized : length us.ids ≡ 64) (apart : Apart us.ids) (p u
   join_sort c Assigned m x e = (x.0, x.1, one_more m)
 
 module _ (new : ℕ) (d : Domain) (s : Sound d) (lo : 1001 ≤ new) (hi : new ≤ 65535) (away : (j : ℕ) → get_or d.channels.ids j 0 ≡ new → ⊥)
-    (p : ℕ) (pl : p < 16) (open-p : has d.links p ≡ true) where
+    (p : ℕ) (pl : p < 16) (open_p : has d.links p ≡ true) where
   -- CJrq for a channel not in use
   join_new_fine : (u c : ℕ) → find d.channels.ids c ≡ Nowhere → Fine (within (put_channels d) (join_new new (channels_full d) d.channels p u c))
   unfolding join_new within
-  join_new_fine u c none-c = go (ltb 1000 c) refl (channels_full d) refl (eqb c 0) refl
+  join_new_fine u c none_c = go (ltb 1000 c) refl (channels_full d) refl (eqb c 0) refl
     where
       here : Open d.links (only connections p)
-      here = marks_only 16 p open-p
+      here = marks_only 16 p open_p
 
       some_one : 0 < only connections p
       some_one = has_pos (only connections p) p (only_self 16 p pl)
@@ -96,7 +96,7 @@ module _ (new : ℕ) (d : Domain) (s : Sound d) (lo : 1001 ≤ new) (hi : new �
       go false e false f false g =
           let cz : c ≡ 0 → ⊥ = eqb-false c 0 g in
           let pos : 0 < c = omega arith in
-          made_sound d s c pos (find_none d.channels.ids c none-c pos) f Static (only connections p) here (pos, ltb-false 1000 c e, some_one)
+          made_sound d s c pos (find_none d.channels.ids c none_c pos) f Static (only connections p) here (pos, ltb-false 1000 c e, some_one)
 
   -- CJrq for a channel in use
   join_at_fine : (u c i j : ℕ) → Sits d.users p u i → find d.channels.ids c ≡ At j
@@ -109,7 +109,7 @@ module _ (new : ℕ) (d : Domain) (s : Sound d) (lo : 1001 ≤ new) (hi : new �
       let k = kind (get_or d.channels.cells j no_channel) in
       let m = (get_or d.channels.cells j no_channel).marks in
       set_sound d s j used _ k (with connections m p) (ap (λ (x : Channel). with_marks x (with connections m p)) row.plain ∙ with_marks_of k m (with connections m p))
-      (marks_with 16 m p row.joins open-p)
+      (marks_with 16 m p row.joins open_p)
       (join_sort d.users s.users_are.ids_size s.users_are.apart p u i w pl (get_or d.channels.ids j 0) k m row.sort (rw r.0 f))
       (λ y. y)
   join_at_fine u c i j w e (suc n) f = s
@@ -183,7 +183,7 @@ places_seated us ids = record { fits = those_lt 64 _; are = λ i h. any_elim (λ
     there i u Nowhere e q = absurd (false≢true q)
 
 -- place j has a private channel with manager m and admitted adm
-record Private-at (d : Domain) (j m adm : ℕ) : Type 0 where
+record PrivateAt (d : Domain) (j m adm : ℕ) : Type 0 where
   used : 0 < get_or d.channels.ids j 0
   stored : channel d.channels j ≡ channel_of (Private m adm) (channel d.channels j).marks
   joins : Open d.links (channel d.channels j).marks
@@ -191,7 +191,7 @@ record Private-at (d : Domain) (j m adm : ℕ) : Type 0 where
 
 module _ (d : Domain) (s : Sound d) (p u c : ℕ) where
   -- a request by the manager
-  manages_fine : (act : ℕ → ℕ → ℕ → Effect Channels) → ((j m adm : ℕ) → Private-at d j m adm → Fine (within (put_channels d) (act j m adm)))
+  manages_fine : (act : ℕ → ℕ → ℕ → Effect Channels) → ((j m adm : ℕ) → PrivateAt d j m adm → Fine (within (put_channels d) (act j m adm)))
       → Fine (within (put_channels d) (manages d.users d.channels p u c act))
   unfolding manages channel owned within
   manages_fine act f = from_fine (put_channels d) d s p u _ (λ i w. go i (find d.channels.ids c) refl)
@@ -221,7 +221,7 @@ module _ (d : Domain) (s : Sound d) (p u c : ℕ) where
       go i Nowhere e = tt
 
   -- it is no user's channel
-  no_user : {j m adm : ℕ} → Private-at d j m adm → kind (channel d.channels j) ≡ User → ⊥
+  no_user : {j m adm : ℕ} → PrivateAt d j m adm → kind (channel d.channels j) ≡ User → ⊥
   no_user {m} {adm} x f =
       let e : Private m adm ≡ User = sym (kind_of (Private m adm) _) ∙ sym (ap kind x.stored) ∙ f in
       let z : ◌≡◌ {A = ℕ} 0 1 = cc in omega (arith, z)
@@ -236,7 +236,7 @@ module _ (d : Domain) (s : Sound d) (p u c : ℕ) where
   unfolding admit attached_of channel within
   admit_fine ids = manages_fine _ (λ j m adm x. go j m adm x (null (attached_of d.users ids)))
     where
-      go : (j m adm : ℕ) → Private-at d j m adm → (b : Bool)
+      go : (j m adm : ℕ) → PrivateAt d j m adm → (b : Bool)
           → Fine (within (put_channels d) (if b then ignored else done
           (set_channel d.channels j (with_guests (channel d.channels j) (union seats adm (places d.users (attached_of d.users ids))) (channel d.channels j).marks))
           (own d.users (attached_of d.users ids) (CAin u c))))
@@ -257,7 +257,7 @@ module _ (d : Domain) (s : Sound d) (p u c : ℕ) where
   unfolding expel channel private_marks within
   expel_fine ids = manages_fine _ (λ j m adm x. go j m adm x (null (admitted_of d.users adm ids)))
     where
-      go : (j m adm : ℕ) → Private-at d j m adm → (b : Bool)
+      go : (j m adm : ℕ) → PrivateAt d j m adm → (b : Bool)
           → Fine (within (put_channels d) (if b then ignored else done
           (set_channel d.channels j (private_marks d.users (channel d.channels j) m (minus seats adm (places d.users (admitted_of d.users adm ids))) (channel d.channels j).marks))
           (own d.users (admitted_of d.users adm ids) (CEin c))))

@@ -43,18 +43,18 @@ module _ (d : Domain) (s : Sound d) where
   ends_sound room (done e rs) f = sends_sound room 0 e rs f
 
   module _ (new : ℕ) (lo : 1001 ≤ new) (hi : new ≤ 65535) (away : (j : ℕ) → get_or d.channels.ids j 0 ≡ new → ⊥) where
-    module _ (p : ℕ) (pl : p < 16) (open-p : has d.links p ≡ true) where
+    module _ (p : ℕ) (pl : p < 16) (open_p : has d.links p ≡ true) where
       -- the request of a message whose fields are in range
       act_fine : (m : Message) → Ranges m → Fine (act new d p m)
       unfolding act within please test
       act_fine (EDrq h i) f = s
       act_fine (DPum n) f = close_fine d s p
       act_fine (RJum n octets) f = close_fine d s p
-      act_fine AUrq f = attach_fine d s new lo hi away p open-p
+      act_fine AUrq f = attach_fine d s new lo hi away p open_p
       act_fine (DUrq n ids) f = detach_fine d s p n ids
-      act_fine (CJrq u c) f = join_fine new d s lo hi away p pl open-p u c
+      act_fine (CJrq u c) f = join_fine new d s lo hi away p pl open_p u c
       act_fine (CLrq cs) f = leave_channels_fine d s p cs
-      act_fine (CCrq u) f = convene_fine new d s lo hi away p pl open-p u
+      act_fine (CCrq u) f = convene_fine new d s lo hi away p pl open_p u
       act_fine (CDrq u c) f = disband_fine d s p u c
       act_fine (CArq u c ids) f = admit_fine d s p u c ids
       act_fine (CErq u c ids) f = expel_fine d s p u c ids

@@ -164,10 +164,10 @@ marked_of User m n = refl
 marked_of (Private g adm) m n = refl
 marked_of Assigned m n = refl
 
-module _ (live : ℕ) (us : Users) (j c : ℕ) (m n : ℕ) (open-n : Open live n) (less : (q : ℕ) → has n q ≡ true → has m q ≡ true) where
+module _ (live : ℕ) (us : Users) (j c : ℕ) (m n : ℕ) (open_n : Open live n) (less : (q : ℕ) → has n q ≡ true → has m q ≡ true) where
   -- what all marks have, fewer have
   fewer : {N : ℕ → Type 0} → Marks 16 m N → Marks 16 n N
-  fewer x = record { fits = open-n.fits; are = λ q h. x.are q (less q h) }
+  fewer x = record { fits = open_n.fits; are = λ q h. x.are q (less q h) }
 
   -- the rules of its kind hold, where it does not end
   fewer_sort : (k : Kind) → Sort us c k m → (lapses k && eqb n 0) ≡ false → Sort us c k n
@@ -183,4 +183,4 @@ module _ (live : ℕ) (us : Users) (j c : ℕ) (m n : ℕ) (open-n : Open live n
     where
       go : (b : Bool) → (lapses k && eqb n 0) ≡ b → (if b then none else some (channel_of k n)) ≡ some after → ChannelRow live us j c after
       go true q f = absurd (none≢some f)
-      go false q f = subst⁻¹ (ChannelRow live us j c) (some_is f) (row_of live us j c k n open-n (fewer_sort k x q))
+      go false q f = subst⁻¹ (ChannelRow live us j c) (some_is f) (row_of live us j c k n open_n (fewer_sort k x q))

@@ -20,7 +20,7 @@ use Rattle.domain.specs.declared.token.Holding.{Holding}
 use Rattle.domain.specs.declared.token.Holding.TheVariants.{Free, Grabbed, Inhibited, Giving, Given}
 use Rattle.domain.specs.declared.token.Token.{Token}
 use Rattle.domain.specs.Cells.{no_channel, no_token, kind, channel_of, hold, token_of}
-use Rattle.domain.specs.Tables.{Users, Channels, Domain, is_free, between, in_range, Free_id}
+use Rattle.domain.specs.Tables.{Users, Channels, Domain, is_free, between, in_range, FreeId}
 use Rattle.domain.specs.Effects.{Effect, ignored, done}
 
 -- a user is at this place
@@ -112,7 +112,7 @@ unfolding between
 is_between a b x h k = and_both (le-leb a x h) (le-leb x b k)
 
 -- a free id is in range, and at no place of the channels
-pub free_parts : (d : Domain) (new : ℕ) → Free_id d new → (1001 ≤ new) × (new ≤ 65535) × ((j : ℕ) → get_or d.channels.ids j 0 ≡ new → ⊥)
+pub free_parts : (d : Domain) (new : ℕ) → FreeId d new → (1001 ≤ new) × (new ≤ 65535) × ((j : ℕ) → get_or d.channels.ids j 0 ≡ new → ⊥)
 free_parts d new free =
     let r = and_parts (between 1001 65535 new) (not (found (find d.channels.ids new))) free in
     let b = between_is 1001 65535 new r.0 in

@@ -21,7 +21,7 @@ use Rattle.domain.specs.Effects.{ignored}
 use Rattle.domain.specs.Channels.{places}
 use Rattle.domain.specs.Leaving.{farewell, leave, those_on, detach}
 use Rattle.domain.specs.Events.{act, stays, sends, ends, answers, step_with, step}
-use Rattle.domain_laws.specs.LeavingInTwo.{Report, reported, Has_room, Names_both, OneOrTwo}
+use Rattle.domain_laws.specs.LeavingInTwo.{Report, reported, HasRoom, NamesBoth, OneOrTwo}
 use Rattle.domain.proofs.Listed.{places_has}
 use Rattle.domain.proofs.invariant.Sound.{Seated, Sound}
 use Rattle.domain.proofs.invariant.Joins.{places_seated}
@@ -72,7 +72,7 @@ module _ (d : Domain) (p : ℕ) where
   unfolding reported step step_with
   shut_stays q e = rw e
 
-  open_leaves : (q : Report) → (ltb 15 p || not (has d.links p)) ≡ false → Has_room d p q → (reported d p q).domain ≡ (if null (out d p q.ids) then d else gone_from d (gone d p q.ids))
+  open_leaves : (q : Report) → (ltb 15 p || not (has d.links p)) ≡ false → HasRoom d p q → (reported d p q).domain ≡ (if null (out d p q.ids) then d else gone_from d (gone d p q.ids))
   unfolding reported step step_with answers act detach leave ends sends
   open_leaves q e = rw e (by (null (out d p q.ids)))
     where
@@ -110,7 +110,7 @@ unfolding places any null
 has_empty us [] e k h = false≢true (in_those 64 _ k h).1
 has_empty us (x ∷ xs) e k h = false≢true e
 
-module _ (d : Domain) (s : Sound d) (p : ℕ) (a b w : List ℕ) (both : Names_both w a b) where
+module _ (d : Domain) (s : Sound d) (p : ℕ) (a b w : List ℕ) (both : NamesBoth w a b) where
   abbrev us : Users
   us = d.users
 
@@ -176,14 +176,14 @@ module _ (d : Domain) (s : Sound d) (p : ℕ) (a b w : List ℕ) (both : Names_b
       go i false q = or-false (has (gone d p a) i)
 
 -- ---- one report, or two
-module _ (d : Domain) (s : Sound d) (p : ℕ) (whole a b : Report) (both : Names_both whole.ids a.ids b.ids)
-    (fw : Has_room d p whole) (fa : Has_room d p a) (fab : Has_room (reported d p a).domain p b) where
+module _ (d : Domain) (s : Sound d) (p : ℕ) (whole a b : Report) (both : NamesBoth whole.ids a.ids b.ids)
+    (fw : HasRoom d p whole) (fa : HasRoom d p a) (fab : HasRoom (reported d p a).domain p b) where
   one_by_one : (reported (reported d p a).domain p b).domain ≡ (reported d p whole).domain
   one_by_one = go (ltb 15 p || not (has d.links p)) refl
     where
       -- the second report, on the tables that the first leaves
-      then_b : (e : Domain) → (reported d p a).domain ≡ e → Has_room e p b
-      then_b e f = subst (λ (x : Domain). Has_room x p b) f fab
+      then_b : (e : Domain) → (reported d p a).domain ≡ e → HasRoom e p b
+      then_b e f = subst (λ (x : Domain). HasRoom x p b) f fab
 
       After : Domain → Domain
       After e = (reported e p b).domain

@@ -197,14 +197,14 @@ module _ (d : Domain) (s : Sound d) (a b g : ℕ) (sum : (i : ℕ) → Seated d.
   stays_marked ch x e = rw (all_open ch x, e)
 
   -- what becomes of a channel, twice
-  module _ (c : ℕ) (ch : Channel) (open-m : Marks 16 ch.marks (λ q. has d.links q ≡ true)) where
+  module _ (c : ℕ) (ch : Channel) (open_m : Marks 16 ch.marks (λ q. has d.links q ≡ true)) where
     -- one that is neither a user's nor private
     plain_fate : (lapses (kind ch) && eqb ch.marks 0) ≡ false → ((ws : Users) (n : ℕ) → fate ws n d.links c ch ≡ narrowed ch (meet connections ch.marks d.links))
         → and_then (fate us a d.links c ch) (fate us' b d.links c) ≡ fate us g d.links c ch
     plain_fate e law = ap (λ (o : Option Channel). and_then o (fate us' b d.links c)) (stay us a) ∙ stay us' b ∙ sym (stay us g)
       where
         stay : (ws : Users) (n : ℕ) → fate ws n d.links c ch ≡ some ch
-        stay ws n = law ws n ∙ stays_marked ch open-m e
+        stay ws n = law ws n ∙ stays_marked ch open_m e
 
     same_fate : (k : Kind) → kind ch ≡ k → ch ≡ channel_of k ch.marks → Sort us c k ch.marks
         → and_then (fate us a d.links c ch) (fate us' b d.links c) ≡ fate us g d.links c ch
@@ -222,7 +222,7 @@ module _ (d : Domain) (s : Sound d) (a b g : ℕ) (sum : (i : ℕ) → Seated d.
         at_who = rw x.2.named at (find_there us.ids s.users_are.apart i here)
 
         own : (ws : Users) (n : ℕ) → find ws.ids c ≡ At i → fate ws n d.links c ch ≡ (if has n i then none else some ch)
-        own ws n f = ap (fate_of ws n d.links c ch) e ∙ fate_there ws n d.links c ch i f ∙ rw (stays_marked ch open-m (rw e))
+        own ws n f = ap (fate_of ws n d.links c ch) e ∙ fate_there ws n d.links c ch i f ∙ rw (stays_marked ch open_m (rw e))
 
         go : (z : Bool) → has a i ≡ z → and_then (if z then none else some ch) (fate us' b d.links c) ≡ (if z || has b i then none else some ch)
         go true q = refl

@@ -14,7 +14,7 @@ use Rattle.cols_spec.specs.Places.{Place, At, Nowhere, find, in_order}
 use Rattle.cols_spec.proofs.Bools.{some_is, none≢some}
 use Rattle.cols_spec.proofs.Marks.{marks_map, in_with}
 use Rattle.cols_spec.proofs.Rows.{find_holds, find_there, get_d_any, Apart}
-use Rattle.cols_spec.proofs.Answers.{found-somewhere}
+use Rattle.cols_spec.proofs.Answers.{found_somewhere}
 use Rattle.cols_spec.proofs.Table.{Table}
 use Rattle.domain.specs.declared.channel.Kind.{Kind}
 use Rattle.domain.specs.declared.channel.Kind.TheVariants.{Static, User, Private, Assigned}
@@ -23,7 +23,7 @@ use Rattle.domain.specs.Cells.{no_channel, no_token, kind, channel_of}
 use Rattle.domain.specs.Tables.{Users, Channels, Tokens, Domain, link, channel, state, is_free, seen}
 use Rattle.domain_laws.specs.Same.{Role, role_of, channel_at, standing, token_at}
 use Rattle.domain_laws.specs.View.{View, view}
-use Rattle.domain_laws.specs.Built.{users_built, kind_built, channel_built, channels_built, holding_built, token_built, tokens_built, built, restores}
+use Rattle.domain_laws.specs.Built.{users_built, kind_built, channel_built, channels_built, holding_built, token_built, tokens_built, built, Restores}
 use Rattle.domain.proofs.invariant.Sound.{Seated, Owned, UserRow, Sort, ChannelRow, Held, TokenRow, Sound}
 use Rattle.domain.proofs.invariant.Seats.{kind_of}
 use Rattle.domain.proofs.invariant.Rooms.{row_of}
@@ -206,7 +206,7 @@ module _ (d : Domain) (s : Sound d) where
       go false m q = absurd (none≢some (sym q))
       go true m q =
           let f = in_order_found d.tokens.ids k m in
-          let w = found-somewhere (find d.tokens.ids k) f in
+          let w = found_somewhere (find d.tokens.ids k) f in
           let r = find_holds d.tokens.ids k w.0 w.1 in
           let a = hold_again d s st (state_held d s k) in
           subst⁻¹ (TokenRow us' i k) (sym (some_is q))
@@ -221,5 +221,5 @@ module _ (d : Domain) (s : Sound d) where
   unfolding built view
   sound_again = record { limits_ok = s.limits_ok; links_fit = s.links_fit; users_are = users_again; channels_are = channels_again; tokens_are = tokens_again }
 
-pub restored : restores
+pub restored : Restores
 restored d g = record { good = sound_good _ (sound_again d (good_sound d g)); same = same_again d (good_sound d g) }

@@ -15,7 +15,7 @@ use Rattle.cols_spec.proofs.Bools.{and_parts, and_both, or_elim, none≢some}
 use Rattle.cols_spec.proofs.Members.{member_append}
 use Rattle.cols_spec.proofs.Order.{in_order_has}
 use Rattle.cols_spec.proofs.Rows.{find_holds, find_there}
-use Rattle.cols_spec.proofs.Answers.{found-somewhere}
+use Rattle.cols_spec.proofs.Answers.{found_somewhere}
 use Rattle.domain.specs.declared.channel.Kind.{Kind}
 use Rattle.domain.specs.declared.channel.Kind.TheVariants.{Static, User, Private, Assigned}
 use Rattle.domain.specs.declared.token.Holding.{Holding}
@@ -25,7 +25,7 @@ use Rattle.domain.specs.Cells.{no_channel, no_token, kind, hold}
 use Rattle.domain.specs.Tables.{Users, Domain, name, link, channel, state, is_free, seen}
 use Rattle.domain.specs.Channels.{places}
 use Rattle.domain.specs.Good.{good}
-use Rattle.domain_laws.specs.Same.{home_of, among, ids_of, Role, static, user-id, assigned, private_of, role_of, channel_at, Standing, nobody, grabbed, inhibited, giving, given, standing, token_at}
+use Rattle.domain_laws.specs.Same.{home_of, among, ids_of, Role, static, user_id, assigned, private_of, role_of, channel_at, Standing, nobody, grabbed, inhibited, giving, given, standing, token_at}
 use Rattle.domain_laws.specs.View.{View, row, view, pick}
 use Rattle.domain_laws.specs.Built.{padded, users_built, place, kind_built, channel_built, channels_built, holding_built, token_built, tokens_built, built, ascending, is_there, are_there, role_proper, standing_proper, proper, takes, TakenExactly}
 use Rattle.domain.proofs.Listed.{places_has}
@@ -77,7 +77,7 @@ module _ (us : Users) (sized : length us.ids ≡ 64) where
   name_place : (g : ℕ) → is_there us g ≡ true → (name us (place us g) ≡ g) × (place us g < 64)
   unfolding is_there place name number
   name_place g h =
-      let w = found-somewhere (find us.ids g) h in
+      let w = found_somewhere (find us.ids g) h in
       let r = find_holds us.ids g w.0 w.1 in
       rw w.1 (r.0, omega (arith, r.1, sized))
 
@@ -99,7 +99,7 @@ module _ (us : Users) (sized : length us.ids ≡ 64) where
   role_back : (r : Role) → role_proper us r ≡ true → role_of us (kind_built us r) ≡ r
   unfolding role_proper role_of kind_built
   role_back static h = refl
-  role_back user-id h = refl
+  role_back user_id h = refl
   role_back assigned h = refl
   role_back (private_of g is) h = let q = and_parts (is_there us g) (are_there us is) h in ap₂ private_of (name_place g q.0).0 (ids_places is q.1)
 

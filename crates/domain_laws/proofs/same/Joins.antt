@@ -79,8 +79,8 @@ module _ (us : Users) (cs : Channels) {lim : ℕ} {P : ℕ → ℕ → Channel �
 
 -- ---- channels that say the same
 
-abbrev pub Channels_same : (us vs : Users) → Channels → Channels → Type 0
-Channels_same us vs cs ds = (c : ℕ) → channel_at us cs c ≡ channel_at vs ds c
+abbrev pub ChannelsSame : (us vs : Users) → Channels → Channels → Type 0
+ChannelsSame us vs cs ds = (c : ℕ) → channel_at us cs c ≡ channel_at vs ds c
 
 -- below the limit
 pub channels_few : (d : Domain) → channels_full d ≡ false → used d.channels.ids < d.limits.channels
@@ -101,7 +101,7 @@ module _ (d e : Domain) (s : Sound d) (r : Sound e) (x : Same d e) where
   twins = twins_of d e s r x
 
   abbrev After : Channels → Channels → Type 0
-  After = Channels_same us vs
+  After = ChannelsSame us vs
 
   choice : (a b : Option (Role × ℕ)) (y c : ℕ) → a ≡ b → (if eqb y c then a else channel_at us d.channels y) ≡ (if eqb y c then b else channel_at vs e.channels y)
   choice a b y c f = ap₂ (λ (p q : Option (Role × ℕ)). if eqb y c then p else q) f (x.channels y)

@@ -15,7 +15,7 @@ use Rattle.domain.specs.declared.channel.Channel.{Channel}
 use Rattle.domain.specs.Cells.{no_channel, kind, channel_of}
 use Rattle.domain.specs.Tables.{Users, Channels, Domain, name, channel, lapses, at_limit, grant, seen}
 use Rattle.domain.specs.Events.{channels_full}
-use Rattle.domain_laws.specs.Same.{Role, static, user-id, assigned, private_of, role_of, channel_at, Same}
+use Rattle.domain_laws.specs.Same.{Role, static, user_id, assigned, private_of, role_of, channel_at, Same}
 use Rattle.domain.proofs.invariant.Sound.{Seated, Sort, ChannelRow, Sound}
 use Rattle.domain_laws.proofs.same.Twins.{Twins, Pair, Match, twins_of, pair_name, match_ids, match_by, pair_by}
 use Rattle.domain_laws.proofs.same.Requests.{used_same, unused_same}
@@ -55,19 +55,19 @@ row_high {us} {c} {ch} r = sort_high us c (kind ch) ch.marks r.sort
 -- the parts of what is said of a kind
 tag : Role → ℕ
 tag static = 0
-tag user-id = 1
+tag user_id = 1
 tag assigned = 2
 tag (private_of g is) = 3
 
 manager : Role → ℕ
 manager static = 0
-manager user-id = 0
+manager user_id = 0
 manager assigned = 0
 manager (private_of g is) = g
 
 guests : Role → List ℕ
 guests static = []
-guests user-id = []
+guests user_id = []
 guests assigned = []
 guests (private_of g is) = is
 

@@ -7,15 +7,15 @@ use Rattle.cols_spec.specs.Sets.{each, member}
 use Rattle.cols_spec.specs.Places.{At, find, found, in_order}
 use Rattle.cols_spec.proofs.Rows.{find_holds}
 use Rattle.cols_spec.proofs.Members.{member_at, member_where}
-use Rattle.cols_spec.proofs.Answers.{stands-found, found-somewhere}
+use Rattle.cols_spec.proofs.Answers.{stands_found, found_somewhere}
 use Rattle.cols_spec.proofs.Order.{in_order_has}
 use Rattle.cols_spec.proofs.Kept.{each_same}
 
 pub in_list_found : (ids : List ℕ) (x : ℕ) → 0 < x → member x ids ≡ true → found (find ids x) ≡ true
-in_list_found ids x h m = let w = member_where ids x m in stands-found ids x w.0 h w.1
+in_list_found ids x h m = let w = member_where ids x m in stands_found ids x w.0 h w.1
 
 found_in_list : (ids : List ℕ) (x : ℕ) → found (find ids x) ≡ true → member x ids ≡ true
-found_in_list ids x f = let w = found-somewhere (find ids x) f in let r = find_holds ids x w.0 w.1 in rw r.0 at (member_at ids w.0 r.1)
+found_in_list ids x f = let w = found_somewhere (find ids x) f in let r = find_holds ids x w.0 w.1 in rw r.0 at (member_at ids w.0 r.1)
 
 pub found_in_order : (ids : List ℕ) (x i : ℕ) → find ids x ≡ At i → member x (in_order ids) ≡ true
 unfolding found

@@ -36,8 +36,8 @@ token_found d s k = go (find d.tokens.ids k) refl
     go Nowhere e = refl
 
 -- tokens that say the same
-abbrev pub Tokens_same : (us vs : Users) → Tokens → Tokens → Type 0
-Tokens_same us vs ts qs = (k : ℕ) → token_at us ts k ≡ token_at vs qs k
+abbrev pub TokensSame : (us vs : Users) → Tokens → Tokens → Type 0
+TokensSame us vs ts qs = (k : ℕ) → token_at us ts k ≡ token_at vs qs k
 
 -- TVcf to the giver
 informed_same : (us vs : Users) → Twins us vs → (n k : ℕ) {h j a b : Holding} → Twin us vs h j → Twin us vs a b → informed us n k h a ≡ informed vs n k j b
@@ -74,7 +74,7 @@ module _ (d e : Domain) (s : Sound d) (r : Sound e) (x : Same d e) where
   )
 
   abbrev After : Tokens → Tokens → Type 0
-  After = Tokens_same us vs
+  After = TokensSame us vs
 
   module _ (k : ℕ) (kz : 1 ≤ k) where
     -- one token is written in both

@@ -12,7 +12,7 @@ use Rattle.cols_spec.specs.Sets.{member}
 use Rattle.cols_spec.specs.Places.{Place, At, Nowhere, find, found, used, unused}
 use Rattle.cols_spec.proofs.Bools.{and_parts, and_both}
 use Rattle.cols_spec.proofs.Rows.{Apart, find_holds}
-use Rattle.cols_spec.proofs.Answers.{stands-found, found-somewhere}
+use Rattle.cols_spec.proofs.Answers.{stands_found, found_somewhere}
 use Rattle.cols_spec.proofs.Turns.{unused_here, unused_later}
 use Rattle.cols_spec.proofs.Members.{member_at, member_where}
 use Rattle.out_records.specs.Records.{Sent}
@@ -75,7 +75,7 @@ in_use_found ids k = bool_ext (in_use ids k) (found (find ids k)) to_find from_f
     to_find h =
         let r = and_parts (not (eqb k 0)) (member k ids) h in
         let w = member_where ids k r.1 in
-        stands-found ids k w.0 (pos (eqb k 0) refl r.0) w.1
+        stands_found ids k w.0 (pos (eqb k 0) refl r.0) w.1
       where
         pos : (b : Bool) → eqb k 0 ≡ b → not b ≡ true → 0 < k
         pos true e q = absurd (false≢true q)
@@ -83,7 +83,7 @@ in_use_found ids k = bool_ext (in_use ids k) (found (find ids k)) to_find from_f
 
     from_find : found (find ids k) ≡ true → in_use ids k ≡ true
     from_find h =
-        let w = found-somewhere (find ids k) h in
+        let w = found_somewhere (find ids k) h in
         let r = find_holds ids k w.0 w.1 in
         and_both (ap not (ne_eqb k 0 (λ e. omega (arith, r.2, e)))) (rw r.0 at (member_at ids w.0 r.1))
 

@@ -14,7 +14,7 @@ use Rattle.domain.specs.Outcomes.{audience, after, step_settled as turned_room}
 use Rattle.domain.specs.Good.{Good}
 use Rattle.domain.specs.History.{History, ◌▹◌}
 use Rattle.domain.specs.Claims.{formed, Turn, run, now, past, next_run, goes}
-use Rattle.domain_laws.specs.Same.{Same, SameEquivalence, same_run, same_after, SameAudience}
+use Rattle.domain_laws.specs.Same.{Same, SameEquivalence, SameRun, SameAfter, SameAudience}
 use Rattle.domain.proofs.invariant.GoodIsSound.{good_sound}
 use Rattle.domain.proofs.invariant.Invariant.{good_next}
 use Rattle.domain_laws.proofs.same.Kinds.{ChannelWhere, there, nowhere, channels_where}
@@ -44,7 +44,7 @@ runs_from (t ∷ ts) f d e g i x h k q =
     runs_from ts p.1 _ _ (good_next d g t.0 t.1 p.0) (good_next e i t.0 t.1 p.0) a.tables _ _
     (λ j. record { event = t.0; reply = a.reply j; sent = a.sent j } ▹ q j)
 
-pub runs : same_run
+pub runs : SameRun
 runs d e h ts g i x f = runs_from ts f d e g i x h h refl
 
 pub audiences : SameAudience
@@ -59,7 +59,7 @@ audiences d e c g i x = go (channels_where d e (good_sound d g) (good_sound e i)
     go (there f k m) = rw (f, k) (ap heard m.marks)
     go (nowhere f k) = rw (f, k)
 
-pub afters : same_after
+pub afters : SameAfter
 unfolding after turned_room
 afters d e v out g i x f =
     let a = steps d e v (length out) g i x f in

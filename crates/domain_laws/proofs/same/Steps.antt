@@ -19,16 +19,16 @@ use Rattle.domain.specs.Tables.{Channels, Tokens, Domain, put_channels, put_toke
 use Rattle.domain.specs.Effects.{Effect, within}
 use Rattle.domain.specs.Events.{act, Event, opens, loses, hears, Reading, reads, refuses, stays, sends, ends, answers, step_with, step}
 use Rattle.domain.specs.Claims.{formed}
-use Rattle.domain_laws.specs.Same.{Same, Alike, SameStepWith, same_step}
+use Rattle.domain_laws.specs.Same.{Same, Alike, SameStepWith, SameStep}
 use Rattle.domain.proofs.invariant.Sound.{Sound, between_is}
 use Rattle.domain.proofs.invariant.GoodIsSound.{good_sound}
 use Rattle.domain.proofs.invariant.Invariant.{grant_free}
 use Rattle.domain_laws.proofs.same.Requests.{Both, skip, both, both_within}
 use Rattle.domain_laws.proofs.same.Holdings.{either}
-use Rattle.domain_laws.proofs.same.Passing.{Tokens_same, grab_both, inhibit_both, release_both, offer_both, answer_both, please_both, test_both}
+use Rattle.domain_laws.proofs.same.Passing.{TokensSame, grab_both, inhibit_both, release_both, offer_both, answer_both, please_both, test_both}
 use Rattle.domain_laws.proofs.same.Kinds.{channels_found, grant_same}
 use Rattle.domain_laws.proofs.same.Leaving.{detach_both, close_both}
-use Rattle.domain_laws.proofs.same.Joins.{Channels_same, join_both, convene_both, leave_channels_both, disband_both, admit_both, expel_both}
+use Rattle.domain_laws.proofs.same.Joins.{ChannelsSame, join_both, convene_both, leave_channels_both, disband_both, admit_both, expel_both}
 use Rattle.domain_laws.proofs.same.Arrives.{attach_both}
 
 module _ (d e : Domain) (s : Sound d) (r : Sound e) (x : Same d e) where
@@ -47,10 +47,10 @@ module _ (d e : Domain) (s : Sound d) (r : Sound e) (x : Same d e) where
   ends_alike room (both {a} {b} q y) = sends_alike room 0 a b q y
 
   -- a request about tokens or channels
-  of_tokens : {y z : Effect Tokens} → Both (Tokens_same d.users e.users) y z → Both Same (within (put_tokens d) y) (within (put_tokens e) z)
+  of_tokens : {y z : Effect Tokens} → Both (TokensSame d.users e.users) y z → Both Same (within (put_tokens d) y) (within (put_tokens e) z)
   of_tokens = both_within Same (put_tokens d) (put_tokens e) (λ a b h. record { limits = x.limits; links = x.links; users = x.users; channels = x.channels; tokens = h })
 
-  of_channels : {y z : Effect Channels} → Both (Channels_same d.users e.users) y z → Both Same (within (put_channels d) y) (within (put_channels e) z)
+  of_channels : {y z : Effect Channels} → Both (ChannelsSame d.users e.users) y z → Both Same (within (put_channels d) y) (within (put_channels e) z)
   of_channels = both_within Same (put_channels d) (put_channels e) (λ a b h. record { limits = x.limits; links = x.links; users = x.users; channels = h; tokens = x.tokens })
 
   module _ (new : ℕ) (lo : 1001 ≤ new) (away : (j : ℕ) → get_or d.channels.ids j 0 ≡ new → ⊥) (away' : (j : ℕ) → get_or e.channels.ids j 0 ≡ new → ⊥) where
@@ -122,6 +122,6 @@ steps_with d e new v room g h x f free =
     step_alike d e s r x new b.0 (not_there d.channels.ids new none (omega (arith, b.0))) (not_there e.channels.ids new (sym (channels_found d e s r x new) ∙ none) (omega (arith, b.0))) v room f
 
 -- and for the one that is granted, which is the same
-pub steps : same_step
+pub steps : SameStep
 unfolding step
 steps d e v room g h x f = rw (← grant_same d e (good_sound d g) (good_sound e h) x) (steps_with d e (grant d.channels) v room g h x f (grant_free d g))

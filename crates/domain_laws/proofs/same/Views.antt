@@ -44,11 +44,11 @@ module _ {A : Type 0} where
 
   -- of rows for every id in use, where nothing is said of any other
   pick_all : (ids : List ℕ) (f : ℕ → Option A) (x : ℕ) → (find ids x ≡ Nowhere → f x ≡ none) → pick x (each (λ u. row u (f u)) (in_order ids)) ≡ f x
-  pick_all ids f x none-else = pick_row x f (in_order ids) ∙ go (find ids x) refl
+  pick_all ids f x none_else = pick_row x f (in_order ids) ∙ go (find ids x) refl
     where
       go : (w : Place) → find ids x ≡ w → (if member x (in_order ids) then f x else none) ≡ f x
       go (At i) e = rw (found_in_order ids x i e)
-      go Nowhere e = if_same (member x (in_order ids)) (sym (none-else e))
+      go Nowhere e = if_same (member x (in_order ids)) (sym (none_else e))
 
 -- ---- what the lists of a view say
 

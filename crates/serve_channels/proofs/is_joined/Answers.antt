@@ -1,4 +1,4 @@
-use Rattle.cols_spec.proofs.Answers.{find_at, find-nowhere}
+use Rattle.cols_spec.proofs.Answers.{find_at, find_nowhere}
 use Rattle.serve_channels.proofs.Parting.{joined_at, joined_nowhere}
 use borrow.Author.Rules.{rules}
 use Rattle.serve_channels.proofs.is_joined.Goals as goal
@@ -16,4 +16,4 @@ pub returns-then-j-lt128 : goal.returns-then-j-lt128
 returns-then-j-lt128 c = joined_at _ _ _ _ _ _ (find_at _ _ _ c.find-j.ensures (search rules)) c.channel_at-ch.ensures c.has.ensures
 
 pub returns : goal.returns
-returns c = joined_nowhere _ _ _ (find-nowhere _ _ _ c.find-j.ensures (search rules))
+returns c = joined_nowhere _ _ _ (find_nowhere _ _ _ c.find-j.ensures (search rules))

@@ -1,5 +1,5 @@
 use Rattle.serve_reply.proofs.Initiators.{placed, unplaced}
-use Rattle.cols_spec.proofs.Answers.{find_at, find-nowhere}
+use Rattle.cols_spec.proofs.Answers.{find_at, find_nowhere}
 use Rattle.serve_channels.proofs.Entering.{join_nobody, join_found, join_unfound}
 use borrow.Author.Rules.{rules}
 use Rattle.serve_channels.proofs.join.Goals as goal
@@ -26,4 +26,4 @@ pub join_new-requires : goal.join_new-requires
 join_new-requires c = tt
 
 pub returns : goal.returns
-returns c = join_unfound _ _ _ _ _ _ _ _ _ (placed _ _ _ c.initiator-i.ensures c.if-i-ge64.false) _ (find-nowhere _ _ _ c.find-j.ensures (search rules)) c.join_new.ensures
+returns c = join_unfound _ _ _ _ _ _ _ _ _ (placed _ _ _ c.initiator-i.ensures c.if-i-ge64.false) _ (find_nowhere _ _ _ c.find-j.ensures (search rules)) c.join_new.ensures

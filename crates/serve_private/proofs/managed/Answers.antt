@@ -1,6 +1,6 @@
 use Rattle.serve_reply.proofs.Initiators.{placed, unplaced}
 use native.Mathlib.Omega.{arith}
-use Rattle.cols_spec.proofs.Answers.{find_at, find-nowhere}
+use Rattle.cols_spec.proofs.Answers.{find_at, find_nowhere}
 use Rattle.serve_private.proofs.Managing.{manages_nobody, manages_nowhere, manages_yes, manages_no}
 use borrow.Author.Rules.{rules}
 use Rattle.serve_private.proofs.managed.Goals as goal
@@ -30,4 +30,4 @@ pub returns-else-presides : goal.returns-else-presides
 returns-else-presides c = (λ h. absurd (omega arith), λ h act. manages_no _ _ _ _ _ _ (placed _ _ _ c.initiator-i.ensures c.if-i-ge64.false) act _ (find_at _ _ _ c.find-j.ensures (search rules)) _ c.channel_at-ch.ensures (c.presides.ensures.1 c.if-presides.false))
 
 pub returns-else-j-lt128 : goal.returns-else-j-lt128
-returns-else-j-lt128 c = (λ h. absurd (omega arith), λ h act. manages_nowhere _ _ _ _ _ _ (placed _ _ _ c.initiator-i.ensures c.if-i-ge64.false) act (find-nowhere _ _ _ c.find-j.ensures (search rules)))
+returns-else-j-lt128 c = (λ h. absurd (omega arith), λ h act. manages_nowhere _ _ _ _ _ _ (placed _ _ _ c.initiator-i.ensures c.if-i-ge64.false) act (find_nowhere _ _ _ c.find-j.ensures (search rules)))

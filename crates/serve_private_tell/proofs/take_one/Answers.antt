@@ -2,7 +2,7 @@
 use mathlib.Core.Path.{refl, sym, ◌∙◌}
 use native.Mathlib.Omega.{arith}
 use lib.Seq.{get_or-set_other}
-use Rattle.cols_spec.proofs.Answers.{find_at, find-nowhere}
+use Rattle.cols_spec.proofs.Answers.{find_at, find_nowhere}
 use Rattle.cols_spec.proofs.Rows.{get_d_any}
 use Rattle.domain.specs.Tables.{link}
 use Rattle.serve_private_tell.proofs.Sieving.{pass_nowhere, pass_uncounted, pass_seen, store_new}
@@ -36,4 +36,4 @@ returns-else-counts c = let a = c.args in
 pub returns-else-j-at : goal.returns-else-j-at
 returns-else-j-at c = let a = c.args in
     let r = c.find-j in
-    (λ passed t. pass_nowhere t _ (find-nowhere a.user_ids.now _ r.result r.ensures (search rules)), λ j l. refl, search rules, search rules)
+    (λ passed t. pass_nowhere t _ (find_nowhere a.user_ids.now _ r.result r.ensures (search rules)), λ j l. refl, search rules, search rules)

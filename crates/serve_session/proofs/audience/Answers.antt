@@ -1,4 +1,4 @@
-use Rattle.cols_spec.proofs.Answers.{find_at, find-nowhere}
+use Rattle.cols_spec.proofs.Answers.{find_at, find_nowhere}
 use Rattle.serve_session.proofs.Heard.{audience_at, audience_none}
 use borrow.Author.Rules.{rules}
 use Rattle.serve_session.proofs.audience.Goals as goal
@@ -9,4 +9,4 @@ returns-then-j-rs c = let a = c.args in
 
 pub returns : goal.returns
 returns c = let a = c.args in
-    audience_none a.channel_ids.now _ a.c (find-nowhere a.channel_ids.now a.c _ c.find-j.ensures (search rules))
+    audience_none a.channel_ids.now _ a.c (find_nowhere a.channel_ids.now a.c _ c.find-j.ensures (search rules))

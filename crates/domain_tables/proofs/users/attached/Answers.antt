@@ -1,5 +1,5 @@
 use mathlib.Core.Path.{sym}
-use Rattle.cols_spec.proofs.Answers.{find_at, find-nowhere}
+use Rattle.cols_spec.proofs.Answers.{find_at, find_nowhere}
 use Rattle.domain_tables.proofs.UserLaws.{attached_here, attached_elsewhere, attached_nowhere}
 use borrow.Author.Rules.{rules}
 use Rattle.domain_tables.proofs.users.attached.Goals as goal
@@ -21,6 +21,6 @@ returns-else-at-i c = (
 pub returns-else-i-at : goal.returns-else-i-at
 returns-else-i-at c = (
   sym (attached_nowhere c.args.user_ids.now c.args.user_links.now c.args.p c.args.u c.find-i.result
-      (find-nowhere c.args.user_ids.now c.args.u c.find-i.result c.find-i.ensures (search rules))),
+      (find_nowhere c.args.user_ids.now c.args.u c.find-i.result c.find-i.ensures (search rules))),
   search rules,
 )
