@@ -26,7 +26,7 @@ fn left_behind(s: &[u8], at: usize) -> usize
 }
 
 // A reader remembers the message and the bit that it has reached.
-#[derive(Drop)]
+#[derive(Clone, Copy)]
 pub struct Reader<'a> {
     pub octets: &'a [u8],
     pub bit: usize,
@@ -64,7 +64,7 @@ pub fn octets_left<'a>(r: Reader<'a>) -> usize
 }
 
 // What is read at a bit, and the bit then reached: behind the field, or the same where it is refused.
-#[derive(Drop)]
+#[derive(Clone, Copy)]
 pub struct Step {
     pub got: Got,
     pub bit: usize,

@@ -6,7 +6,7 @@ ghost use Rattle.codec_octets.specs.Octets.{read_length, read_item, an_id, a_num
 ghost use Rattle.codec_octets.specs.Places.{left_at, Octetwise};
 
 // What a reader answers: a value with the place behind it, or a refusal.
-#[derive(Drop)]
+#[derive(Clone, Copy)]
 pub enum Got {
     Value(u32, usize),
     No(u8),

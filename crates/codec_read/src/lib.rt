@@ -125,7 +125,7 @@ fn take_field(s: &[u8], at: usize, kind: u8) -> Got
 }
 
 // The fields read: whether all are, else the refusal; the bit behind them; their values.
-#[derive(Drop)]
+#[derive(Clone, Copy)]
 pub struct Fields {
     pub ok: bool,
     pub refusal: u8,
@@ -170,7 +170,7 @@ fn take_fields(s: &[u8], from: usize, number: u32, line: u32, count: usize) -> F
 
 // What follows the fields: whether it is read, else the refusal; the octet behind it; how many ids, which stand in the list lent, or octets
 // from start on.
-#[derive(Drop)]
+#[derive(Clone, Copy)]
 pub struct Items {
     pub ok: bool,
     pub refusal: u8,
@@ -285,7 +285,7 @@ fn read_tail(s: &[u8], from: usize, kind: u8, ids: &mut [u16; LIST_LIMIT]) -> It
 }
 
 // A message, or a refusal. Its items are ids, or the octets from start on.
-#[derive(Drop)]
+#[derive(Clone, Copy)]
 pub struct Decoded {
     pub ok: bool,
     pub refusal: u8,
@@ -318,7 +318,7 @@ pub fn refused(n: u8) -> Decoded
 }
 
 // What is said of a message beside the ids of its list; or a refusal.
-#[derive(Drop)]
+#[derive(Clone, Copy)]
 pub struct Head {
     pub ok: bool,
     pub refusal: u8,

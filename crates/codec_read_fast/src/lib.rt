@@ -16,7 +16,7 @@ use codec_table::LIST_LIMIT;
 use tokens::Wish;
 
 // Whether a message is read; then its number, and its values, 0 where it has none.
-#[derive(Drop)]
+#[derive(Clone, Copy)]
 pub struct Short {
     pub ok: bool,
     pub number: u32,

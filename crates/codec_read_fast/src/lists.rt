@@ -8,7 +8,7 @@ use codec_octets::wide;
 use codec_table::LIST_LIMIT;
 
 // Whether a message is read; then its number, the values before its list, 0 where it has none, and how many ids are stored.
-#[derive(Drop)]
+#[derive(Clone, Copy)]
 pub struct Listing {
     pub ok: bool,
     pub number: u32,
@@ -65,7 +65,7 @@ fn ids_at(s: &[u8], from: usize, low: u32, count: usize, listed: &mut [u16; LIST
 }
 
 // What stands before a list: whether the message is one of these; then the octet that counts its ids, the lowest id of their kind, the message's number and its values, 0 where it has none.
-#[derive(Drop)]
+#[derive(Clone, Copy)]
 struct Head {
     ok: bool,
     at: usize,

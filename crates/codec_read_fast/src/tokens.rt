@@ -6,7 +6,7 @@ use crate::id_at;
 use codec_octets::wide;
 
 // Whether a request is read; then its number, the user, the token, and the recipient of a TVrq or the result of a TVrs, else 0.
-#[derive(Drop)]
+#[derive(Clone, Copy)]
 pub struct Wish {
     pub ok: bool,
     pub number: u32,

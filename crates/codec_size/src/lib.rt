@@ -13,7 +13,7 @@ use codec_table::{
 };
 
 // How far something goes: octets, or for a field the bit behind it. Or a refusal.
-#[derive(Drop)]
+#[derive(Clone, Copy)]
 pub enum Wrote {
     Upto(usize),
     Not(u8),
@@ -224,7 +224,7 @@ fn message_size(number: u32, line: u32, values: &[u32], ids: &[u16], octets: &[u
 }
 
 // What a message takes, and the line of the table by which it is written: looked up once, for both.
-#[derive(Drop)]
+#[derive(Clone, Copy)]
 pub struct Measured {
     pub line: u32,
     pub size: Wrote,

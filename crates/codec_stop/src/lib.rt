@@ -11,7 +11,7 @@ use codec_octets::{Got, left_at, read_id, read_length, wide};
 use codec_table::{MESSAGE_LIMIT, count_of, form_of, kind_of, tail_of};
 
 // The part of a message: its number, a field by its place, the list or string behind the fields, or the end.
-#[derive(Drop)]
+#[derive(Clone, Copy)]
 pub enum Part {
     Number,
     Field(usize),
@@ -19,7 +19,7 @@ pub enum Part {
     End,
 }
 
-#[derive(Drop)]
+#[derive(Clone, Copy)]
 pub enum Why {
     // All is read.
     Read,
@@ -49,7 +49,7 @@ pub enum Why {
 }
 
 // The refusal, 0 where all is read; the bit where what is refused starts; its part of the message; and why.
-#[derive(Drop)]
+#[derive(Clone, Copy)]
 pub struct Stop {
     pub refusal: u8,
     pub bit: usize,

@@ -18,7 +18,7 @@ pub mod traces;
 
 // The domain: its limits, the open connections, and the columns of the users, channels and tokens.
 #[repr(C)]
-#[derive(Drop)]
+#[derive(Clone, Copy)]
 pub struct Domain {
     pub channels: u8,
     pub users: u8,

@@ -10,7 +10,7 @@ ghost use Rattle.salvage.specs.Steps.{Lays, Before, Takes, Measures, Passes};
 
 // How a trace was salvaged: 0, and how many octets of the output and of the list are filled; or 9.
 #[repr(C)]
-#[derive(Drop)]
+#[derive(Clone, Copy)]
 pub struct Salvaged {
     pub reply: u32,
     pub kept: usize,
@@ -18,7 +18,7 @@ pub struct Salvaged {
 }
 
 // A place in the trace, how many octets before it are kept, and how many spans are cut out.
-#[derive(Drop)]
+#[derive(Clone, Copy)]
 struct Place {
     at: usize,
     kept: usize,

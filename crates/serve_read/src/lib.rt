@@ -10,7 +10,7 @@ use codec_read::Head;
 use domain::numbers::Reply;
 
 // A reply that refuses, or Done with a request: its number, first values and how many ids it lists.
-#[derive(Drop)]
+#[derive(Clone, Copy)]
 pub struct Understood {
     pub reply: Reply,
     pub number: u32,
