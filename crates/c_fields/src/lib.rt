@@ -67,7 +67,8 @@ pub fn start<'a>(
     );
     let reply = s.reply;
     let n = reply_number(reply);
-    if n == 0 {
+    let is_done = n == 0;
+    if is_done {
         let l = s.limits;
         *channels = l.channels;
         *users = l.users;

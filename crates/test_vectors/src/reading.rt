@@ -35,7 +35,7 @@ fn put_items(text: &mut [u8], at: usize, is_string: bool, ids: &[u16], octets: &
 // `number value ..`, the items, and the mark: that the message is written again as it was.
 fn put_message(
     text: &mut [u8],
-    d: &Decoded,
+    d: Decoded,
     values: &[u32],
     ids: &[u16],
     octets: &[u8],
@@ -61,19 +61,19 @@ fn upto(is_there: bool, n: usize, most: usize) -> usize
 }
 
 // The values of a message.
-fn values_of<'a>(d: &Decoded, values: &'a [u32]) -> &'a [u32] {
+fn values_of<'a>(d: Decoded, values: &'a [u32]) -> &'a [u32] {
     let n = upto(true, d.have, values.len());
     &values[0..n]
 }
 
 // The ids of a message; none where it has a string.
-fn ids_of<'a>(d: &Decoded, ids: &'a [u16]) -> &'a [u16] {
+fn ids_of<'a>(d: Decoded, ids: &'a [u16]) -> &'a [u16] {
     let n = upto(!d.octets, d.count, ids.len());
     &ids[0..n]
 }
 
 // The string of a message, which lies in the octets read; none where it has ids.
-fn string_of<'a>(d: &Decoded, message: &'a [u8]) -> &'a [u8] {
+fn string_of<'a>(d: Decoded, message: &'a [u8]) -> &'a [u8] {
     let start = upto(d.octets, d.start, message.len());
     let n = upto(d.octets, d.count, message.len() - start);
     let end = start + n;
@@ -88,10 +88,10 @@ pub fn answer(message: &[u8], text: &mut [u8]) -> usize {
         let ids = d.ids;
         put_message(
             text,
-            &d,
-            values_of(&d, &values),
-            ids_of(&d, &ids),
-            string_of(&d, message),
+            d,
+            values_of(d, &values),
+            ids_of(d, &ids),
+            string_of(d, message),
             message,
         )
     } else {
