@@ -1,9 +1,13 @@
 // Numbers, lengths and ids that start on an octet (X.691, aligned basic variant), and the bits left of an octet begun.
 #![tactic(auto)]
 
+mod refusal;
+
 ghost use Rattle.std.specs.Prelude.{◌≡◌, ◌+◌, ◌*◌, ◌-◌, ◌<◌, ◌≤◌, length, drop};
 ghost use Rattle.codec_octets.specs.Octets.{read_length, read_item, an_id, a_number, fewest, counted, size};
 ghost use Rattle.codec_octets.specs.Places.{left_at, Octetwise};
+
+pub use refusal::Refusal;
 
 // What a reader answers: a value with the place behind it, or a refusal.
 #[derive(Clone, Copy)]
