@@ -6,7 +6,8 @@ pub mod channel;
 pub mod numbers;
 pub mod token;
 
-// The start limits.
+// The start limits. They lie as those of the struct for C do.
+#[repr(C)]
 #[derive(Clone, Copy)]
 pub struct Limits {
     pub channels: u8,

@@ -41,6 +41,20 @@ module _ (names homes : List ℕ) (p u i : ℕ) where
   unfolding attached number at_of
   attached_nowhere e = ap (λ (w : Place). number 64 (at_of (users_of names homes) p w)) e
 
+-- the same as a place
+module _ (names homes : List ℕ) (p u i : ℕ) where
+  pub is_attached : find names u ≡ At i → i < length homes → get_or homes i 0 ≡ p → attached (users_of names homes) p u ≡ At i
+  unfolding attached at_of
+  is_attached e h q = ap (λ (w : Place). at_of (users_of names homes) p w) e ∙ rw (link_is names homes i h, eq-eqb (get_or homes i 0) p q) refl
+
+  pub not_attached : find names u ≡ At i → i < length homes → (get_or homes i 0 ≡ p → ⊥) → attached (users_of names homes) p u ≡ Nowhere
+  unfolding attached at_of
+  not_attached e h q = ap (λ (w : Place). at_of (users_of names homes) p w) e ∙ rw (link_is names homes i h, ne_eqb (get_or homes i 0) p q) refl
+
+pub attached_none : (names homes : List ℕ) (p u : ℕ) → find names u ≡ Nowhere → attached (users_of names homes) p u ≡ Nowhere
+unfolding attached at_of
+attached_none names homes p u e = ap (λ (w : Place). at_of (users_of names homes) p w) e
+
 -- ---- the connections of a set of users
 
 -- one more number below n

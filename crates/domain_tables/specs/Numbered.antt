@@ -1,5 +1,5 @@
 -- A place answered as a number, and a token's cell stored where its place is known.
-use Rattle.std.specs.Prelude.{ℕ, eqb, ltb, if◌then◌else◌}
+use Rattle.std.specs.Prelude.{ℕ, Option, Some, None, eqb, ltb, if◌then◌else◌}
 use Rattle.cols_spec.specs.Places.{Place, At, Nowhere, found, spare, store}
 use Rattle.domain.specs.declared.token.Token.{Token}
 use Rattle.domain.specs.Tables.{Tokens}
@@ -7,6 +7,11 @@ use Rattle.domain.specs.Tables.{Tokens}
 -- of n places the one with this number; any other number is nowhere
 unfoldable pub place : (n i : ℕ) → Place
 place n i = if ltb i n then At i else Nowhere
+
+-- a place that code answers, or none
+abbrev pub placed : Option ℕ → Place
+placed (Some i) = At i
+placed None = Nowhere
 
 -- token k, whose place this is, has this cell: where its mode is 0 the place is free then, else has it; nowhere it gets the spare one
 unfoldable pub set_at : (ts : Tokens) (at : Place) (k : ℕ) (t : Token) → Tokens

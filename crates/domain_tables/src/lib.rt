@@ -1,4 +1,5 @@
-// The tables of the domain, each lent as one array of numbers for each part of a place: looked up and stored to. Any contents are taken.
+// The domain as C keeps it: its limits, its open connections and its tables. A table is one array of numbers for each part of a place. Any contents are
+// taken.
 #![tactic(auto)]
 
 pub mod channels;
@@ -8,6 +9,24 @@ pub mod users;
 ghost use Rattle.std.specs.Prelude.{◌≡◌, true, ◌<◌};
 ghost use Rattle.cols_spec.specs.Places.{used};
 ghost use Rattle.domain.specs.Tables.{at_limit};
+
+pub use channels::{Channels, Members};
+use domain::Limits;
+pub use tokens::Tokens;
+pub use users::Users;
+
+// The fields lie as those of `struct ladlestorm_domain` do (include/ladlestorm.h): so the columns of the channels are in two structs.
+#[repr(C)]
+#[derive(Drop)]
+pub struct Domain {
+    pub limits: Limits,
+    // The open connections: bit p for connection p.
+    pub links: u16,
+    pub users: Users,
+    pub channels: Channels,
+    pub members: Members,
+    pub tokens: Tokens,
+}
 
 // The last place is free, and the limit lets all be in use: so most often in a domain of the largest limits, and then nothing needs to be counted.
 fn last_free(limit: u8, ids: &[u16]) -> bool
