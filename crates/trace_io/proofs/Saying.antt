@@ -10,6 +10,8 @@ use lib.ListN.{length, drop, get_or, drop_of_length-le}
 use lib.Seq.{drop-cons}
 use Rattle.trace_io.specs.Hexadecimal.{digit_of, octet_text}
 use Rattle.trace_io.specs.Lines.{collected, said, Says, each}
+use Rattle.trace_io.specs.Waiting.{SaysTo}
+use Rattle.trace_io.specs.declared.lines.Lines.{Lines}
 
 pub said_append : (s : List ℕ × ℕ) (ts us : List (List ℕ)) → said s (ts ++ us) ≡ said (said s ts) us
 unfolding said
@@ -88,3 +90,21 @@ telling_step {f = f} {xs = xs} {i = i} t h l s =
 
 pub telling_end : {f : ℕ → ℕ → List (List ℕ)} {xs o x : List ℕ} {w r i : ℕ} → Telling f xs o w x r i → length xs ≤ i → Says o w (each f 0 xs) x r
 telling_end {f = f} {xs = xs} {i = i} t h = onward_end (each f i (drop i xs)) t.onward (each_end f xs i h)
+
+-- the same loop, which says to lines: once `i` elements of the list are said
+pub record SaysOn (f : ℕ → ℕ → List (List ℕ)) (xs : List ℕ) (old : Lines) (i : ℕ) (new : Lines) : Type 0 where
+  pub more : i ≤ length xs
+  pub onward : Onward old.room old.filled (each f 0 xs) new.room new.filled (each f i (drop i xs))
+
+pub on_start : {f : ℕ → ℕ → List (List ℕ)} {xs : List ℕ} {old : Lines} → SaysOn f xs old 0 old
+on_start = record { more = search rules; onward = onward_start }
+
+pub on_step : {f : ℕ → ℕ → List (List ℕ)} {xs : List ℕ} {old mid new : Lines} {i : ℕ} → SaysOn f xs old i mid → i < length xs → SaysTo mid (f i (get_or xs i 0)) new → SaysOn f xs old (i + 1) new
+on_step {f = f} {xs = xs} {i = i} t h s =
+    record {
+      more = omega arith;
+      onward = onward_step (f i (get_or xs i 0)) (each f i (drop i xs)) t.onward (each_next f xs i h) s;
+    }
+
+pub on_end : {f : ℕ → ℕ → List (List ℕ)} {xs : List ℕ} {old new : Lines} {i : ℕ} → SaysOn f xs old i new → length xs ≤ i → SaysTo old (each f 0 xs) new
+on_end {f = f} {xs = xs} {i = i} t h = onward_end (each f i (drop i xs)) t.onward (each_end f xs i h)

@@ -2,8 +2,9 @@
 ghost use Rattle.std.specs.Prelude.{◌≡◌, [], ◌∷◌};
 ghost use Rattle.trace_io.specs.Lines.{Says, each};
 ghost use Rattle.trace_io.specs.Hexadecimal.{digit_of, octet_text, octet_texts};
+ghost use Rattle.trace_io.specs.Waiting.{SaysTo};
 
-use crate::lines::say;
+use crate::lines::{Lines, say};
 
 // A digit of an octet in hexadecimal.
 fn digit(n: u8) -> u8
@@ -39,4 +40,28 @@ pub fn say_octets(out: &mut [u8], filled: usize, octets: &[u8], apart: bool) -> 
         i += 1;
     }
     at
+}
+
+impl Lines {
+    // Says an octet, behind a space where it is to stand apart.
+    fn say_octet(&mut self, octet: u8, apart: bool)
+        ensures { SaysTo self.old (octet_text apart octet ∷ []) self.new }
+    {
+        let high = digit(octet / 16);
+        let low = digit(octet % 16);
+        if apart {
+            self.say(&[b' ', high, low]);
+            return;
+        }
+        self.say(&[high, low]);
+    }
+
+    // Says octets one behind the other.
+    pub fn say_octets(&mut self, octets: &[u8], apart: bool)
+        ensures { SaysTo self.old (each (octet_texts apart) 0 octets.now) self.new }
+    {
+        for octet in octets {
+            self.say_octet(*octet, apart);
+        }
+    }
 }

@@ -2,6 +2,7 @@
 ghost use Rattle.std.specs.Prelude.{◌≡◌, [], ◌∷◌, ◌++◌, ◌+◌, ◌≤◌, length, leb};
 ghost use Rattle.std.proofs.lemmas.List.Edits.{sets};
 ghost use Rattle.trace_io.specs.Lines.{decimal, field, line_of, collected, Says, Adds};
+ghost use Rattle.trace_io.specs.Waiting.{SaysTo};
 
 // The descriptors that are written to: standard output and standard error.
 pub const OUTPUT: i32 = 1;
@@ -106,4 +107,48 @@ pub fn add_line(out: &mut [u8], filled: usize, report: Report) -> usize
     let d = put_field(&mut text, c, report.channels, b' ');
     let e = put_field(&mut text, d, report.tokens, b'\n');
     collect(out, filled, &text[..e])
+}
+
+// Texts on their way to a descriptor: those that wait are the first octets of the room, and are written where there is no room for more.
+#[derive(Drop)]
+pub struct Lines {
+    room: [u8; 65536],
+    filled: usize,
+}
+
+impl Lines {
+    // Nothing waits.
+    pub fn new() -> Lines {
+        Lines {
+            room: [0; 65536],
+            filled: 0,
+        }
+    }
+
+    // Says a text. What many calls say is promised as the list of the texts; when they are written is not.
+    pub fn say(&mut self, text: &[u8])
+        ensures { SaysTo self.old (text.now ∷ []) self.new }
+    {
+        self.filled = say(&mut self.room, self.filled, text);
+    }
+
+    // Says a number in decimal.
+    pub fn say_number(&mut self, n: u64)
+        ensures { SaysTo self.old (decimal n ∷ []) self.new }
+    {
+        self.filled = say_number(&mut self.room, self.filled, n);
+    }
+
+    // Says the line of a report.
+    pub fn say_report(&mut self, report: Report)
+        ensures { SaysTo self.old (line_of report ∷ []) self.new }
+    {
+        self.filled = add_line(&mut self.room, self.filled, report);
+    }
+
+    // Writes what waits.
+    pub fn flush(&mut self) {
+        flush(&self.room, self.filled);
+        self.filled = 0;
+    }
 }

@@ -1,0 +1,6 @@
+use Rattle.trace_io.specs.Hexadecimal.{octet_texts}
+use Rattle.trace_io.proofs.Saying.{SaysOn}
+use Rattle.trace_io.proofs.lines.Lines.say_octets.Given as goal
+
+abbrev pub invariant-loop-octet : goal.invariant-loop-octet
+invariant-loop-octet l = SaysOn (octet_texts l.apart) l.octets l.initial.self l.octet-index l.self
