@@ -196,17 +196,19 @@ unfolding only
 none_only w k h = is_those w 0 (eqb k) (pow_pos w) (λ j b. has_high 0 0 j (zero-lt-suc 0) zero-le ∙ sym (ne_eqb k j (λ e. omega arith)))
 
 -- one more and one less, by the mask of that one alone
-module _ (w m k : ℕ) (hm : m < 2 ^ w) where
-  pub or_with : bit_or m (only w k) ≡ with w m k
-  unfolding with
-  or_with = is_those w (bit_or m (only w k)) _ (or_lt w m (only w k) hm (only_lt w k))
-      (λ j b. has_or m (only w k) j ∙ ap (λ (x : Bool). has m j || x) (has_only w k j b ∙ eqb_sym k j))
+pub union_only : (w m k : ℕ) → union w m (only w k) ≡ with w m k
+unfolding union with
+union_only w m k =
+    is_those w (union w m (only w k)) _ (those_lt w _) (λ j b. has_those w _ j b ∙ ap (λ (x : Bool). has m j || x) (has_only w k j b ∙ eqb_sym k j))
 
-  pub and_without : bit_and m (bit_xor m (only w k)) ≡ without w m k
-  unfolding without minus
-  and_without = and_minus w m (only w k) hm (only_lt w k)
-      ∙ is_those w (minus w m (only w k)) _ (those_lt w _) (λ j b. has_those w _ j b ∙ ap (λ (x : Bool). has m j && not x) (has_only w k j b ∙ eqb_sym k j))
+pub minus_only : (w m k : ℕ) → minus w m (only w k) ≡ without w m k
+unfolding minus without
+minus_only w m k =
+    is_those w (minus w m (only w k)) _ (those_lt w _) (λ j b. has_those w _ j b ∙ ap (λ (x : Bool). has m j && not x) (has_only w k j b ∙ eqb_sym k j))
 
 -- the code's shift
 pub shl_only : (w k : ℕ) → k < w → (1 * 2 ^ k) % 2 ^ w ≡ only w k
 shl_only w k h = shl_exact {a = 1} 1 k w (omega arith) (omega arith) ∙ one-mul (2 ^ k) ∙ pow_only w k h
+
+-- what an operation on numbers, or 0, is as a mask
+pub ruleset by_digits = (or_union, and_meet, and_minus, none_only)

@@ -5,6 +5,8 @@ ghost use Rattle.std.specs.Prelude.{◌≡◌, true, false, [], ◌∷◌, ℕ, 
 ghost use Rattle.cols_spec.specs.Sets.{member as member_of, has as has_in, ids_above, Gap};
 ghost use Rattle.cols_spec.specs.Places.{first as first_in, busy, InRow, next as next_in, number, picked, unused as unused_in};
 
+use cols_masks::Mask;
+
 // The two, four, eight places from i on hold x, x + step and so on. No branch stands between them here either.
 fn row_of_two(ids: &[u16], i: usize, x: u16, step: u16) -> bool
     requires { (i + 2 ≤ length ids.now) × (x + step ≤ 65535) }
@@ -290,7 +292,7 @@ fn marks(ids: &[u16], low: u16) -> u64
 fn gap(m: u64) -> usize
     ensures { Gap (has_in m) 64 result }
 {
-    u64::trailing_zeros(cols_masks::other_seats(0xffff_ffff_ffff_ffff, m)) as usize
+    u64::trailing_zeros(u64::MAX.minus(m)) as usize
 }
 
 // How many ids above `low` stand at some place before the first that does not, of 128.

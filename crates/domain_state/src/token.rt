@@ -5,6 +5,7 @@ ghost use Rattle.domain.specs.Tables.{is_free};
 ghost use Rattle.domain.specs.Tokens.{status as status_of, grab as grab_of, inhibit as inhibit_of, release as release_of, grabbed_by, offered_to, responded as answered_of, party as party_of, lose as lose_of, lose_offer, inhibited as inhibited_of, turned_of};
 ghost use Rattle.domain.specs.Numbers.{status_number};
 
+use cols_masks::Mask;
 use domain::numbers::{Result, Status};
 use domain::token::{Holding, Token, Turned};
 
@@ -104,7 +105,7 @@ pub fn grab(full: bool, h: Holding, u: u8) -> Turned
         }
         Holding::Grabbed(_) => Turned::Fails(Result::TokenNotAvailable),
         Holding::Inhibited(us) => {
-            if us == cols_masks::seat(u) {
+            if us == u64::only(u) {
                 Turned::Turns(Holding::Grabbed(u))
             } else {
                 Turned::Fails(Result::TokenNotAvailable)
@@ -124,17 +125,17 @@ pub fn inhibit(full: bool, h: Holding, u: u8) -> Turned
             if full {
                 Turned::Fails(Result::TooManyTokens)
             } else {
-                Turned::Turns(Holding::Inhibited(cols_masks::seat(u)))
+                Turned::Turns(Holding::Inhibited(u64::only(u)))
             }
         }
         Holding::Grabbed(g) => {
             if g == u {
-                Turned::Turns(Holding::Inhibited(cols_masks::seat(u)))
+                Turned::Turns(Holding::Inhibited(u64::only(u)))
             } else {
                 Turned::Fails(Result::TokenNotAvailable)
             }
         }
-        Holding::Inhibited(us) => Turned::Turns(Holding::Inhibited(cols_masks::with_seat(us, u))),
+        Holding::Inhibited(us) => Turned::Turns(Holding::Inhibited(us.with(u))),
         Holding::Giving(_, _) => Turned::Fails(Result::TokenNotAvailable),
         Holding::Given(_) => Turned::Fails(Result::TokenNotAvailable),
     }
@@ -155,7 +156,7 @@ pub fn release(h: Holding, u: u8) -> Turned
         }
         Holding::Inhibited(us) => {
             if cols_masks::has(us, u) {
-                Turned::Turns(inhibited(cols_masks::without_seat(us, u)))
+                Turned::Turns(inhibited(us.without(u)))
             } else {
                 Turned::Fails(Result::TokenNotPossessed)
             }
@@ -229,10 +230,10 @@ pub fn party(h: Holding) -> u64
 {
     match h {
         Holding::Free => 0,
-        Holding::Grabbed(g) => cols_masks::seat(g),
+        Holding::Grabbed(g) => u64::only(g),
         Holding::Inhibited(us) => us,
-        Holding::Giving(g, r) => cols_masks::with_seat(cols_masks::seat(g), r),
-        Holding::Given(r) => cols_masks::seat(r),
+        Holding::Giving(g, r) => u64::only(g).with(r),
+        Holding::Given(r) => u64::only(r),
     }
 }
 
@@ -247,7 +248,7 @@ pub fn lose(gone: u64, h: Holding) -> Holding
         } else {
             Holding::Grabbed(g)
         },
-        Holding::Inhibited(us) => inhibited(cols_masks::other_seats(us, gone)),
+        Holding::Inhibited(us) => inhibited(us.minus(gone)),
         Holding::Giving(g, r) => lose_offer(
             cols_masks::has(gone, g),
             cols_masks::has(gone, r),

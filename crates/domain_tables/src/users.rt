@@ -6,6 +6,8 @@ ghost use Rattle.domain.specs.Lent.{users_after, users_before, users_now};
 ghost use Rattle.domain_tables.specs.Held.{users_in};
 ghost use Rattle.domain_tables.specs.Numbered.{placed};
 
+use cols_masks::Mask;
+
 #[repr(C)]
 #[derive(Drop)]
 pub struct Users {
@@ -46,8 +48,8 @@ impl Users {
         let mut left = who;
         while left != 0 {
             let i = u64::trailing_zeros(left) as usize;
-            m = cols_masks::with_link(m, self.links[i]);
-            left = cols_masks::without_seat(left, i as u8);
+            m = m.with(self.links[i]);
+            left = left.without(i as u8);
         }
         m
     }
@@ -107,8 +109,8 @@ pub fn hosts(user_ids: &[u16; 64], user_links: &[u8; 64], who: u64) -> u16
     let mut left = who;
     while left != 0 {
         let i = u64::trailing_zeros(left) as usize;
-        m = cols_masks::with_link(m, at[i]);
-        left = cols_masks::without_seat(left, i as u8);
+        m = m.with(at[i]);
+        left = left.without(i as u8);
     }
     m
 }

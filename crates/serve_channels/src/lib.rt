@@ -13,6 +13,7 @@ ghost use Rattle.domain.specs.Lent.{cells_after, cells_before, cells_now, channe
 ghost use Rattle.domain.specs.Effects.{done, settle, answered};
 ghost use Rattle.domain.specs.Channels.{attach as attach_of, join as join_of, join_at, join_new, may, joined as joined_in, left, leave_channels as leave_of};
 
+use cols_masks::Mask;
 use domain::answer::Answer;
 use domain::channel::{Channel, Kind};
 use domain::numbers::{Reply, Result};
@@ -93,7 +94,7 @@ fn join_at(
         role: ch.role,
         chair: ch.chair,
         guests: ch.guests,
-        marks: cols_masks::with_link(ch.marks, p),
+        marks: ch.marks.with(p),
     };
     domain_tables::channels::set_channel(channel_kinds, managers, admitted, joined, j, now);
     a
@@ -121,7 +122,7 @@ fn start(
     if serve_reply::refused(a) {
         return a;
     }
-    let ch = domain_state::channel::new_channel(k, cols_masks::link(p));
+    let ch = domain_state::channel::new_channel(k, u16::only(p));
     domain_tables::channels::add_channel(
         channel_ids,
         channel_kinds,
@@ -313,7 +314,7 @@ fn leave_at(
     }
     if cols_walk::member(listed, c) {
         let ch = domain_tables::channels::channel_at(channel_kinds, managers, admitted, joined, j);
-        let left = cols_masks::without_link(ch.marks, p);
+        let left = ch.marks.without(p);
         if ends(ch, left) {
             domain_tables::channels::end_channel(
                 channel_ids,

@@ -13,6 +13,7 @@ ghost use Rattle.domain.specs.Effects.{settle, answered};
 ghost use Rattle.domain.specs.Leaving.{those_on, farewell as farewell_of, leave as leave_of, detach as detach_of, close as close_of};
 ghost use Rattle.serve_leave.specs.Lists.{Leaves, Adds};
 
+use cols_masks::Mask;
 use domain::answer::Answer;
 use domain::numbers::{Reason, Reply};
 
@@ -175,7 +176,7 @@ fn remaining(links: u16, closes: bool, p: u8) -> u16
     ensures { result ≡ (if closes then without all_links links p else links) }
 {
     if closes {
-        return cols_masks::without_link(links, p);
+        return links.without(p);
     }
     links
 }
@@ -275,7 +276,7 @@ fn add_leaver(
             list[n] = u;
             return Leavers {
                 count: n + 1,
-                seats: cols_masks::with_seat(t.seats, seat),
+                seats: t.seats.with(seat),
             };
         }
     }

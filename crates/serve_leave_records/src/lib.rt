@@ -16,6 +16,7 @@ ghost use Rattle.domain.specs.Leaving.{ended, returned, farewell as farewell_of}
 ghost use Rattle.serve_leave_records.specs.Parts.{parting, kind_at, ends_by, ends_there, end_at, return_at};
 ghost use Rattle.serve_leave_records.specs.Endings.{Marks, NextMark};
 
+use cols_masks::Mask;
 use domain::channel::Kind;
 use domain::numbers::Result;
 use domain::token::Holding;
@@ -84,12 +85,8 @@ fn put_ended(
     match k {
         Kind::Private(g, guests) => {
             if cols_masks::has(gone, g) {
-                let held = domain_tables::users::hosts(
-                    user_ids,
-                    user_links,
-                    cols_masks::with_seat(guests, g),
-                );
-                let told = cols_masks::common_links(held, live);
+                let held = domain_tables::users::hosts(user_ids, user_links, guests.with(g));
+                let told = held.meet(live);
                 let m = out_messages::disband_indication(c);
                 return out_records::tell(out, at, told, &m);
             }
@@ -129,8 +126,8 @@ fn with_end(e: Ending, c: u16) -> Ending
     ensures { (xs : List ℕ) → Marks xs e → Marks (xs ++ c ∷ []) result }
 {
     Ending {
-        low: cols_masks::all_seats(e.low, cols_walk::mark(1000, c)),
-        high: cols_masks::all_seats(e.high, cols_walk::mark(1064, c)),
+        low: e.low.union(cols_walk::mark(1000, c)),
+        high: e.high.union(cols_walk::mark(1064, c)),
         beyond: e.beyond | ((0 < c) & ((c < 1001) | (1128 < c))),
     }
 }

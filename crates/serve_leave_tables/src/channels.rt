@@ -7,6 +7,8 @@ ghost use Rattle.domain.specs.Tables.{hosts, sweep_channels};
 ghost use Rattle.domain.specs.Lent.{cells_after, cells_before, channels_after, channels_before, users_now};
 ghost use Rattle.serve_leave_tables.specs.Fates.{fate_by, ends_by, guests_left, marks_left};
 
+use cols_masks::Mask;
+
 // Channel c is the user's id of one of those listed. Most ids are among the 64 that have a mark; another is looked for only where the channel
 // is a user's, role 2, since no other ends by its id.
 fn is_listed(low: u64, list: &[u16], role: u8, c: u16) -> bool
@@ -39,10 +41,7 @@ fn links_left(user_ids: &[u16; 64], user_links: &[u8; 64], chair: u8, guests: u6
     if m == 0 {
         return 0;
     }
-    cols_masks::common_links(
-        m,
-        domain_tables::users::hosts(user_ids, user_links, cols_masks::with_seat(guests, chair)),
-    )
+    m.meet(domain_tables::users::hosts(user_ids, user_links, guests.with(chair)))
 }
 
 // The channel at place j stays: its connections, and of a private one the admitted.
@@ -63,7 +62,7 @@ fn stay(
         (marks_left (users_now user_ids user_links) role (get_or managers.now j 0) (guests_left role (get_or admitted.old j 0) gone) m)) }
 {
     if role == 3 {
-        let let_in = cols_masks::other_seats(admitted[j], gone);
+        let let_in = admitted[j].minus(gone);
         admitted[j] = let_in;
         joined[j] = links_left(user_ids, user_links, managers[j], let_in, m);
         return;
@@ -101,7 +100,7 @@ fn leave_place(
         return;
     }
     let role = channel_kinds[j];
-    let m = cols_masks::common_links(joined[j], live);
+    let m = joined[j].meet(live);
     if ends(role, managers[j], is_listed(low, list, role, c), gone, m) {
         domain_tables::channels::end_channel(
             channel_ids,

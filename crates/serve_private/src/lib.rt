@@ -12,6 +12,7 @@ ghost use Rattle.domain.specs.Channels.{convene as convene_of, owned, manages, d
 ghost use Rattle.serve_private_tell.specs.declared.Say.TheVariants.{Admits, Expels};
 ghost use Rattle.serve_private.specs.Changes.{picks, changed, changes};
 
+use cols_masks::Mask;
 use domain::answer::Answer;
 use domain::channel::{Channel, Kind};
 use domain::numbers::Result;
@@ -111,7 +112,7 @@ fn managed(
 fn homes_of(user_ids: &[u16; 64], user_links: &[u8; 64], chair: u8, guests: u64) -> u16
     ensures { result ≡ hosts_of (users_now user_ids user_links) (with seats guests chair) }
 {
-    domain_tables::users::hosts(user_ids, user_links, cols_masks::with_seat(guests, chair))
+    domain_tables::users::hosts(user_ids, user_links, guests.with(chair))
 }
 
 // CDrq by u on p for channel c.
@@ -182,17 +183,17 @@ fn with_change(
         Say::Admits(_, _) => Channel {
             role: ch.role,
             chair: ch.chair,
-            guests: cols_masks::all_seats(ch.guests, seats),
+            guests: ch.guests.union(seats),
             marks: ch.marks,
         },
         Say::Expels(_) => {
-            let stay = cols_masks::other_seats(ch.guests, seats);
+            let stay = ch.guests.minus(seats);
             let mask = homes_of(user_ids, user_links, ch.chair, stay);
             Channel {
                 role: ch.role,
                 chair: ch.chair,
                 guests: stay,
-                marks: cols_masks::common_links(ch.marks, mask),
+                marks: ch.marks.meet(mask),
             }
         }
     }

@@ -10,6 +10,7 @@ ghost use Rattle.domain.specs.Effects.{settle, answered, delivers};
 ghost use Rattle.domain.specs.Channels.{places as places_of, own};
 ghost use Rattle.serve_private_tell.specs.Sieve.{counted, sieved, leads, Takes, Located, Housed, owned_by, says, Begins, own_to, tells};
 
+use cols_masks::Mask;
 use domain::answer::Answer;
 use domain::numbers::Reply;
 
@@ -91,7 +92,7 @@ fn take_one(
                 add_share(shares, firsts, at[j], n as u8);
                 return Taken {
                     count: n + 1,
-                    seats: cols_masks::with_seat(t.seats, seat),
+                    seats: t.seats.with(seat),
                 };
             }
         }

@@ -10,6 +10,7 @@ ghost use Rattle.domain.specs.Events.{opens};
 ghost use Rattle.domain.specs.Outcomes.{limited, begun, after, audience as audience_of};
 ghost use Rattle.cols_spec.specs.Places.{used};
 
+use cols_masks::Mask;
 use domain::Limits;
 use domain::numbers::Reply;
 
@@ -105,7 +106,7 @@ pub fn open(links: &mut u16, p: u8) -> Reply
     if cols_masks::has(before as u64, p) {
         return Reply::OpenAlready;
     }
-    *links = cols_masks::with_link(before, p);
+    *links = before.with(p);
     Reply::Done
 }
 

@@ -5,7 +5,7 @@ use Rattle.cols_spec.proofs.Gaps.{gap_of}
 use Rattle.cols_walk.proofs.gap.Goals as goal
 
 pub overflow_cast-result : goal.overflow_cast-result
-overflow_cast-result c = omega (arith, trailing_le 64 c.other_seats.result)
+overflow_cast-result c = omega (arith, trailing_le 64 c.minus.result)
 
 pub returns : goal.returns
-returns c = gap_of c.args.m c.other_seats.result c.other_seats.ensures
+returns c = gap_of c.args.m c.minus.result c.minus.ensures

@@ -31,12 +31,12 @@ refused-requires c = tt
 pub returns-then-refused : goal.returns-then-refused
 returns-then-refused c ids = join_refused _ _ _ _ _ _ _ _ _ c.channel_at-ch.ensures c.kind_of.ensures c.may_join-result.ensures _ _ _ _ (omega (arith, c.result_number.ensures, c.if-result_number-gt0.false)) c.take_join-a.ensures (sym c.refused.ensures ∙ c.if-refused.true)
 
-pub with_link-requires : goal.with_link-requires
-with_link-requires c = tt
+pub with-requires : goal.with-requires
+with-requires c = tt
 
 pub set_channel-requires : goal.set_channel-requires
 set_channel-requires c = tt
 
 pub returns : goal.returns
 unfolding set_channel
-returns c ids = join_done _ _ _ _ _ _ _ _ _ c.channel_at-ch.ensures c.kind_of.ensures c.may_join-result.ensures _ _ _ _ (omega (arith, c.result_number.ensures, c.if-result_number-gt0.false)) c.take_join-a.ensures (sym c.refused.ensures ∙ c.if-refused.false) _ _ c.with_link.ensures (λ i. record { ids = ids; cells = c.set_channel.ensures i })
+returns c ids = join_done _ _ _ _ _ _ _ _ _ c.channel_at-ch.ensures c.kind_of.ensures c.may_join-result.ensures _ _ _ _ (omega (arith, c.result_number.ensures, c.if-result_number-gt0.false)) c.take_join-a.ensures (sym c.refused.ensures ∙ c.if-refused.false) _ _ c.with.ensures (λ i. record { ids = ids; cells = c.set_channel.ensures i })

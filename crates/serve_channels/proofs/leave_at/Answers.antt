@@ -16,8 +16,8 @@ member-requires c = tt
 pub channel_at-ch-requires : goal.channel_at-ch-requires
 channel_at-ch-requires c = tt
 
-pub without_link-left-requires : goal.without_link-left-requires
-without_link-left-requires c = tt
+pub without-left-requires : goal.without-left-requires
+without-left-requires c = tt
 
 pub ends-requires : goal.ends-requires
 ends-requires c = tt
@@ -30,7 +30,7 @@ returns-then-ends c =
     let a = c.args in
     let f = left a.p a.listed.now in
     let found = c.channel_at-ch in
-    let less = c.without_link-left in
+    let less = c.without-left in
     let ends = c.ends in
     channel_ends f a.j a.channel_ids.now a.channel_kinds.now a.managers.now a.admitted.now a.joined.now _ _ _ _ _ c.if-c-eq0.false
     (left_ends a.p a.listed.now _ _ (sym c.member.ensures ∙ c.if-member.true) found.result found.ensures less.result less.ensures ends.result ends.ensures c.if-ends.true)
@@ -44,7 +44,7 @@ returns-else-ends c =
     let a = c.args in
     let f = left a.p a.listed.now in
     let found = c.channel_at-ch in
-    let less = c.without_link-left in
+    let less = c.without-left in
     let ends = c.ends in
     channel_stays f a.j a.channel_ids.now a.channel_kinds.now a.managers.now a.admitted.now a.joined.now a.channel_ids.now _ _ _ _ c.if-c-eq0.false _
     (left_stays a.p a.listed.now _ _ (sym c.member.ensures ∙ c.if-member.true) found.result found.ensures less.result less.ensures ends.result ends.ensures c.if-ends.false)

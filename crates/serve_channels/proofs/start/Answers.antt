@@ -13,8 +13,8 @@ refused-requires c = tt
 pub returns-then-refused : goal.returns-then-refused
 returns-then-refused c = did_refuse _ _ c.take_join-a.ensures _ _ (sym c.refused.ensures ∙ c.if-refused.true)
 
-pub link-requires : goal.link-requires
-link-requires c = tt
+pub only-requires : goal.only-requires
+only-requires c = tt
 
 pub new_channel-ch-requires : goal.new_channel-ch-requires
 new_channel-ch-requires c = tt
@@ -23,4 +23,4 @@ pub add_channel-requires : goal.add_channel-requires
 add_channel-requires c = tt
 
 pub returns : goal.returns
-returns c = did _ _ c.take_join-a.ensures _ _ _ (c.add_channel.ensures ∙ ap (add_channel _ _) (c.new_channel-ch.ensures ∙ ap (channel_of c.args.k) c.link.ensures)) (sym c.refused.ensures ∙ c.if-refused.false)
+returns c = did _ _ c.take_join-a.ensures _ _ _ (c.add_channel.ensures ∙ ap (add_channel _ _) (c.new_channel-ch.ensures ∙ ap (channel_of c.args.k) c.only.ensures)) (sym c.refused.ensures ∙ c.if-refused.false)

@@ -8,7 +8,7 @@ use Rattle.serve_leave.proofs.add_leaver.Goals as goal
 
 pub returns-then-not-has : goal.returns-then-not-has
 returns-then-not-has c = let a = c.args in
-    adds_new (users_of a.user_ids.now a.user_links.now) a.p a.u a.list.now a.t c.attached-j.result c.attached-j.ensures.0 (omega arith) (sym c.has.ensures ∙ c.if-not-has.true) (search rules) (search rules) _ c.with_seat.ensures
+    adds_new (users_of a.user_ids.now a.user_links.now) a.p a.u a.list.now a.t c.attached-j.result c.attached-j.ensures.0 (omega arith) (sym c.has.ensures ∙ c.if-not-has.true) (search rules) (search rules) _ c.with.ensures
 
 pub returns-else-not-has : goal.returns-else-not-has
 returns-else-not-has c = let a = c.args in

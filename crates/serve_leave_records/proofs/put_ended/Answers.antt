@@ -6,8 +6,8 @@ use Rattle.serve_leave_records.proofs.put_ended.Goals as goal
 
 pub returns-then-has : goal.returns-then-has
 returns-then-has c = rw c.in-Private.is
-    (ended_some _ _ _ _ _ _ (sym c.has.ensures ∙ c.if-has.true) c.disband_indication-m.ensures c.requires c.common_links-told.result
-    (rw (← c.with_seat.ensures, ← c.hosts-held.ensures) c.common_links-told.ensures) c.tell.ensures)
+    (ended_some _ _ _ _ _ _ (sym c.has.ensures ∙ c.if-has.true) c.disband_indication-m.ensures c.requires c.meet-told.result
+    (rw (← c.with.ensures, ← c.hosts-held.ensures) c.meet-told.ensures) c.tell.ensures)
 
 pub returns-else-has : goal.returns-else-has
 returns-else-has c = rw c.in-Private.is (ended_none _ _ _ _ _ _ _ _ (sym c.has.ensures ∙ c.if-has.false))

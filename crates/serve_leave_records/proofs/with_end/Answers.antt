@@ -5,5 +5,5 @@ use Rattle.serve_leave_records.proofs.Marking.{marks_more}
 use Rattle.serve_leave_records.proofs.with_end.Goals as goal
 
 pub returns : goal.returns
-returns c = λ xs h. marks_more c.args.c h (c.all_seats.ensures ∙ rw (c.mark.ensures (search rules)) refl)
-    (c.all_seats-2.ensures ∙ rw (c.mark-2.ensures (search rules)) refl) refl
+returns c = λ xs h. marks_more c.args.c h (c.union.ensures ∙ rw (c.mark.ensures (search rules)) refl)
+    (c.union-2.ensures ∙ rw (c.mark-2.ensures (search rules)) refl) refl

@@ -17,7 +17,7 @@ unfolding link
 returns-then-not-has c = let a = c.args in
     let h = c.requires in
     let r = c.find-j in (
-      λ passed t. store_new a.list.now a.t.count t _ r.result (find_at a.user_ids.now _ r.result r.ensures (search rules)) (omega arith) (sym c.counts.ensures ∙ c.if-counts.true) (sym c.has.ensures ∙ c.if-not-has.true) (search rules) (omega arith) h.4 h.5 _ (get_d_any a.user_links.now r.result 0 16 (search rules)) _ _ _ c.add_share.ensures.0 c.add_share.ensures.1 c.with_seat.ensures,
+      λ passed t. store_new a.list.now a.t.count t _ r.result (find_at a.user_ids.now _ r.result r.ensures (search rules)) (omega arith) (sym c.counts.ensures ∙ c.if-counts.true) (sym c.has.ensures ∙ c.if-not-has.true) (search rules) (omega arith) h.4 h.5 _ (get_d_any a.user_links.now r.result 0 16 (search rules)) _ _ _ c.add_share.ensures.0 c.add_share.ensures.1 c.with.ensures,
       λ j l. get_or-set_other a.list.now a.t.count j _ 0 (λ e. omega arith),
       search rules,
       search rules,

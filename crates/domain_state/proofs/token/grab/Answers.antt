@@ -15,13 +15,13 @@ pub returns-in-Grabbed : goal.returns-in-Grabbed
 unfolding grab
 returns-in-Grabbed c = rw c.in-Grabbed.is refl
 
-pub returns-then-us-seat : goal.returns-then-us-seat
+pub returns-then-us-only : goal.returns-then-us-only
 unfolding grab
-returns-then-us-seat c = rw (c.in-Inhibited.is, ← c.seat.ensures, eq-eqb _ _ c.if-us-seat.true) refl
+returns-then-us-only c = rw (c.in-Inhibited.is, ← c.only.ensures, eq-eqb _ _ c.if-us-only.true) refl
 
-pub returns-else-us-seat : goal.returns-else-us-seat
+pub returns-else-us-only : goal.returns-else-us-only
 unfolding grab
-returns-else-us-seat c = rw (c.in-Inhibited.is, ← c.seat.ensures, ne_eqb _ _ c.if-us-seat.false) refl
+returns-else-us-only c = rw (c.in-Inhibited.is, ← c.only.ensures, ne_eqb _ _ c.if-us-only.false) refl
 
 pub returns-in-Giving : goal.returns-in-Giving
 unfolding grab

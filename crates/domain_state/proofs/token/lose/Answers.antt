@@ -16,7 +16,7 @@ returns-else-has c = rw (c.in-Grabbed.is, ← c.has.ensures, c.if-has.false) ref
 
 pub returns-in-Inhibited : goal.returns-in-Inhibited
 unfolding lose
-returns-in-Inhibited c = rw (c.in-Inhibited.is, ← c.other_seats.ensures, c.inhibited.ensures) refl
+returns-in-Inhibited c = rw (c.in-Inhibited.is, ← c.minus.ensures, c.inhibited.ensures) refl
 
 pub returns-in-Giving : goal.returns-in-Giving
 unfolding lose

@@ -8,7 +8,7 @@ returns-in-Free c = rw c.in-Free.is refl
 
 pub returns-in-Grabbed : goal.returns-in-Grabbed
 unfolding party
-returns-in-Grabbed c = rw (c.in-Grabbed.is, c.seat.ensures) refl
+returns-in-Grabbed c = rw (c.in-Grabbed.is, c.only.ensures) refl
 
 pub returns-in-Inhibited : goal.returns-in-Inhibited
 unfolding party
@@ -16,8 +16,8 @@ returns-in-Inhibited c = rw c.in-Inhibited.is refl
 
 pub returns-in-Giving : goal.returns-in-Giving
 unfolding party
-returns-in-Giving c = rw (c.in-Giving.is, c.with_seat.ensures, c.seat-in-Giving.ensures) refl
+returns-in-Giving c = rw (c.in-Giving.is, c.with.ensures, c.only-in-Giving.ensures) refl
 
 pub returns-in-Given : goal.returns-in-Given
 unfolding party
-returns-in-Given c = rw (c.in-Given.is, c.seat-in-Given.ensures) refl
+returns-in-Given c = rw (c.in-Given.is, c.only-in-Given.ensures) refl

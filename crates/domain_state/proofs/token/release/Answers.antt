@@ -17,7 +17,7 @@ returns-else-g-u c = rw (c.in-Grabbed.is, ne_eqb _ _ c.if-g-u.false) refl
 
 pub returns-then-has : goal.returns-then-has
 unfolding release
-returns-then-has c = rw (c.in-Inhibited.is, ← c.has.ensures, c.if-has.true, ← c.without_seat.ensures, c.inhibited.ensures) refl
+returns-then-has c = rw (c.in-Inhibited.is, ← c.has.ensures, c.if-has.true, ← c.without.ensures, c.inhibited.ensures) refl
 
 pub returns-else-has : goal.returns-else-has
 unfolding release

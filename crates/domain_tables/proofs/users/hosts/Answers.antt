@@ -21,14 +21,14 @@ pub loop-left-smaller : goal.loop-left-smaller
 loop-left-smaller c =
     let b = c.loop-left in
     let small = lowest_small b.left b.invariant.1.fits c.loop-left-test.true in
-    rw c.without_seat-left.ensures (omega (arith, left_higher b.invariant.1 small))
+    rw c.without-left.ensures (omega (arith, left_higher b.invariant.1 small))
 
 pub loop-left-preserved : goal.loop-left-preserved
 loop-left-preserved c =
     let a = c.args in
     let b = c.loop-left in
     let small = lowest_small b.left b.invariant.1.fits c.loop-left-test.true in
-    (b.invariant.0, rw (c.without_seat-left.ensures, c.with_link-m.ensures, ← link_is a.user_ids.now a.user_links.now (count_trailing_zeros 64 b.left) (omega arith)) (left_next b.invariant.1 small))
+    (b.invariant.0, rw (c.without-left.ensures, c.with-m.ensures, ← link_is a.user_ids.now a.user_links.now (count_trailing_zeros 64 b.left) (omega arith)) (left_next b.invariant.1 small))
 
 pub returns : goal.returns
 returns c = left_none c.loop-left.invariant.1 (search rules)

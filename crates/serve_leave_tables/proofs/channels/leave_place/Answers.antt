@@ -14,9 +14,9 @@ returns-then-c-eq0 c = let a = c.args in
 pub returns-then-ends : goal.returns-then-ends
 returns-then-ends c = let a = c.args in
     place_ends (users_of a.user_ids.now a.user_links.now) a.list.now a.gone a.live a.j a.channel_ids.now a.channel_kinds.now a.managers.now a.admitted.now a.joined.now c.if-c-eq0.false
-    (omega (arith, c)) (omega (arith, c)) (omega (arith, c)) (omega (arith, c)) c.common_links-m.result c.common_links-m.ensures _ _ c.is_listed.ensures c.ends.ensures _ _ _ _ _ c.if-ends.true c.end_channel.ensures
+    (omega (arith, c)) (omega (arith, c)) (omega (arith, c)) (omega (arith, c)) c.meet-m.result c.meet-m.ensures _ _ c.is_listed.ensures c.ends.ensures _ _ _ _ _ c.if-ends.true c.end_channel.ensures
 
 pub returns : goal.returns
 returns c = let a = c.args in
     place_stays (users_of a.user_ids.now a.user_links.now) a.list.now a.gone a.live a.j a.channel_ids.now a.channel_kinds.now a.managers.now a.admitted.now a.joined.now c.if-c-eq0.false
-    (omega (arith, c)) (omega (arith, c)) (omega (arith, c)) (omega (arith, c)) c.common_links-m.result c.common_links-m.ensures _ _ c.is_listed.ensures c.ends.ensures _ _ c.if-ends.false c.stay.ensures
+    (omega (arith, c)) (omega (arith, c)) (omega (arith, c)) (omega (arith, c)) c.meet-m.result c.meet-m.ensures _ _ c.is_listed.ensures c.ends.ensures _ _ c.if-ends.false c.stay.ensures

@@ -6,4 +6,4 @@ pub returns-then-m-eq0 : goal.returns-then-m-eq0
 returns-then-m-eq0 c = rw (c.if-m-eq0.true, meet_none) refl
 
 pub returns : goal.returns
-returns c = rw (c.common_links.ensures, c.hosts.ensures, c.with_seat.ensures) refl
+returns c = rw (c.meet.ensures, c.hosts.ensures, c.with.ensures) refl

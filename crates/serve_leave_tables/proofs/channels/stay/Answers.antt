@@ -10,7 +10,7 @@ pub returns-then-role-eq3 : goal.returns-then-role-eq3
 unfolding guests_left marks_left
 returns-then-role-eq3 c = let a = c.args in
     let r : eqb a.role 3 ≡ true = eq-eqb a.role 3 c.if-role-eq3.true in
-    rw (r, c.links_left.ensures, c.other_seats-let_in.ensures) (refl, refl)
+    rw (r, c.links_left.ensures, c.minus-let_in.ensures) (refl, refl)
 
 pub returns : goal.returns
 unfolding guests_left marks_left
