@@ -3,7 +3,7 @@ use Rattle.std.specs.Prelude.{ℕ}
 use Rattle.codec_octets.specs.declared.refusal.Refusal.{Refusal}
 use Rattle.codec_octets.specs.declared.refusal.Refusal.TheVariants.{WrongLength, BadEncoding, NotServed, TooLong, NoRoom}
 
-unfoldable pub refusal_number : Refusal → ℕ
+abbrev pub refusal_number : Refusal → ℕ
 refusal_number WrongLength = 4
 refusal_number BadEncoding = 5
 refusal_number NotServed = 7

@@ -1,23 +1,29 @@
 -- Two outcomes that a promise of the codec allows are equal. Assumes nothing.
-use mathlib.Core.Path.{◌≡◌, sym, ap, ◌∙◌}
+use mathlib.Core.Path.{◌≡◌, refl, sym, ap, ◌∙◌}
+use mathlib.Core.Bool.{cond}
 use mathlib.Core.List.{List}
 use Prim.Native.Nat.{ℕ, ◌+◌, ◌*◌, ◌/◌, ◌≤◌}
 use native.Mathlib.Omega.{arith}
 use lib.ListN.{length, drop, length-drop}
+use lib.Dec.{eqb}
+use Rattle.std.specs.Prelude.{Result, Ok, Err}
 use Rattle.codec_octets.specs.Octets.{Read}
 use Rattle.codec_octets.specs.Places.{left_at, bits_at, behind, at_octet, at_bit, EndsAt, Leaves, Octetwise, Bitwise}
 use Rattle.codec_octets.specs.declared.Got.{Got}
 use Rattle.codec_octets.specs.declared.Got.TheVariants.{Value, No}
 use Rattle.codec_octets.proofs.OctetLaws.{refused}
 use Rattle.codec_table.specs.Messages.{Field}
-use Rattle.codec_table.specs.Codec.{Msg, decode}
+use Rattle.codec_table.specs.Codec.{Msg, Outcome, decode}
 use Rattle.codec_read.specs.Held.{decoded}
 use Rattle.codec_read.specs.Fields.{FieldAt}
 use Rattle.codec_cursor.specs.Steps.{reached, Steps}
 use Rattle.codec_read.specs.declared.Decoded.{Decoded}
 use Rattle.codec_cursor.specs.declared.Step.{Step}
 use Rattle.codec_write.specs.Writing.{Encodes}
-use Rattle.codec_size.specs.declared.Wrote.{Wrote}
+use Rattle.codec_octets.specs.Refusals.{refusal_number}
+use Rattle.codec_octets.specs.declared.refusal.Refusal.{Refusal}
+use Rattle.codec_octets.specs.declared.refusal.Refusal.TheVariants.{WrongLength, BadEncoding, NotServed, TooLong, NoRoom}
+use Rattle.codec_size.specs.Sizes.{outcome_of}
 use Rattle.codec_roundtrip.specs.RoundTrip.{ReadBack}
 
 -- a place is known by what is behind it
@@ -67,9 +73,34 @@ step_outcome s at f t t' a b =
     let e : t.got ≡ t'.got = field_outcome s at f t.got t'.got a.reads b.reads in
     (e, a.ends ∙ ap (λ g. reached g at) e ∙ sym b.ends)
 
+-- a refusal is known by its number
+refusal_of : ℕ → Refusal
+refusal_of n = cond (eqb n 4) WrongLength (cond (eqb n 5) BadEncoding (cond (eqb n 7) NotServed (cond (eqb n 8) TooLong NoRoom)))
+
+known_again : (r : Refusal) → refusal_of (refusal_number r) ≡ r
+unfolding refusal_of
+known_again WrongLength = refl
+known_again BadEncoding = refl
+known_again NotServed = refl
+known_again TooLong = refl
+known_again NoRoom = refl
+
+pub same_refusal : (r r' : Refusal) → refusal_number r ≡ refusal_number r' → r ≡ r'
+same_refusal r r' e = sym (known_again r) ∙ ap refusal_of e ∙ known_again r'
+
+same_outcome : (r r' : Result ℕ Refusal) → outcome_of r ≡ outcome_of r' → r ≡ r'
+same_outcome (Ok n) (Ok k) e = cc
+same_outcome (Ok n) (Err k) e = cc
+same_outcome (Err n) (Ok k) e = cc
+same_outcome (Err n) (Err k) e = let z : refusal_number n ≡ refusal_number k = cc in rw (same_refusal n k z)
+
 -- of `encode`: the answer and the room behind it
-pub encode_outcome : (m : Msg) (s : List ℕ) (r r' : Wrote) (t t' : List ℕ) → Encodes m s r t → Encodes m s r' t' → ◌≡◌ {A = Wrote × List ℕ} (r, t) (r', t')
-encode_outcome m s r r' t t' a b = a ∙ sym b
+pub encode_outcome : (m : Msg) (s : List ℕ) (r r' : Result ℕ Refusal) (t t' : List ℕ) → Encodes m s r t → Encodes m s r' t' → ◌≡◌ {A = Result ℕ Refusal × List ℕ} (r, t) (r', t')
+encode_outcome m s r r' t t' a b =
+    let e : ◌≡◌ {A = Outcome ℕ × List ℕ} (outcome_of r, t) (outcome_of r', t') = a ∙ sym b in
+    let f : outcome_of r ≡ outcome_of r' = ap (λ (p : Outcome ℕ × List ℕ). p.0) e in
+    let g : t ≡ t' = ap (λ (p : Outcome ℕ × List ℕ). p.1) e in
+    rw (same_outcome r r' f, g)
 
 -- of `encode_decode`
 pub back_outcome : (m : Msg) (s : List ℕ) (r r' : Decoded) (t t' : List ℕ) → ReadBack m s r t → ReadBack m s r' t' → (r ≡ r') × (t ≡ t')

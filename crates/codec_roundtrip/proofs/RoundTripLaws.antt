@@ -11,46 +11,44 @@ use borrow.Author.Tests.{leb-true, le-leb}
 use Rattle.codec_table.specs.Codec.{Msg, Outcome, ok, refuse, decode, encode}
 use Rattle.codec_table.proofs.Theorems.{written_is_read}
 use Rattle.codec_read.specs.Held.{no_message, decoded}
-use Rattle.codec_write.specs.Writing.{pick_room, filled, Encodes}
+use Rattle.codec_write.specs.Writing.{filled, Encodes}
 use Rattle.codec_read.specs.declared.Decoded.{Decoded}
-use Rattle.codec_size.specs.declared.Wrote.{Wrote}
-use Rattle.codec_size.specs.declared.Wrote.TheVariants.{Upto, Not}
+use Rattle.codec_octets.specs.Refusals.{refusal_number}
+use Rattle.codec_octets.specs.declared.refusal.Refusal.{Refusal}
+use Rattle.std.specs.Prelude.{Ok, Err}
 use Rattle.codec_roundtrip.specs.RoundTrip.{back_by, back, octets_by, ReadBack}
 
-apart : {n k : ℕ} → Upto n ≡ Not k → ⊥
-apart e = let z : ◌≡◌ {A = ℕ} 0 1 = cc in omega arith
+first : {a b : Outcome ℕ} {x y : List ℕ} → ◌≡◌ {A = Outcome ℕ × List ℕ} (a, x) (b, y) → a ≡ b
+first e = ap (λ (p : Outcome ℕ × List ℕ). p.0) e
 
-first : {a b : Wrote} {x y : List ℕ} → ◌≡◌ {A = Wrote × List ℕ} (a, x) (b, y) → a ≡ b
-first e = ap (λ (p : Wrote × List ℕ). p.0) e
-
-second : {a b : Wrote} {x y : List ℕ} → ◌≡◌ {A = Wrote × List ℕ} (a, x) (b, y) → x ≡ y
-second e = ap (λ (p : Wrote × List ℕ). p.1) e
+second : {a b : Outcome ℕ} {x y : List ℕ} → ◌≡◌ {A = Outcome ℕ × List ℕ} (a, x) (b, y) → x ≡ y
+second e = ap (λ (p : Outcome ℕ × List ℕ). p.1) e
 
 -- what the writer answers is what it left
-written : (o : Outcome (List ℕ)) (s s' : List ℕ) (n : ℕ) → ◌≡◌ {A = Wrote × List ℕ} (Upto n, s') (filled o s)
+written : (o : Outcome (List ℕ)) (s s' : List ℕ) (n : ℕ) → ◌≡◌ {A = Outcome ℕ × List ℕ} (ok n, s') (filled o s)
     → (o ≡ ok (take n s')) × (n ≤ length s') × (length (take n s') ≤ length s)
-written (refuse k) s s' n f = absurd (apart (first f))
+written (refuse k) s s' n f = absurd (let c = first f in cc)
 written (ok os) s s' n f = go (leb (length os) (length s)) refl f
   where
-    go : (t : Bool) → leb (length os) (length s) ≡ t → ◌≡◌ {A = Wrote × List ℕ} (Upto n, s') (pick_room t (Upto (length os), os ++ drop (length os) s) (Not 9, s))
+    go : (t : Bool) → leb (length os) (length s) ≡ t → ◌≡◌ {A = Outcome ℕ × List ℕ} (ok n, s') (cond t (ok (length os), os ++ drop (length os) s) (refuse 9, s))
         → (ok os ≡ ok (take n s')) × (n ≤ length s') × (length (take n s') ≤ length s)
     go true k f =
-        let c : Upto n ≡ Upto (length os) = first f in
+        let c : ok n ≡ ok (length os) = first f in
         let a : n ≡ length os = cc in
         let b : s' ≡ os ++ drop (length os) s = second f in
         rw (a, b, take-append_seam os (drop (length os) s)) (refl, omega (arith, length-append os (drop (length os) s)), leb-true (length os) (length s) k)
-    go false k f = absurd (apart (first f))
+    go false k f = absurd (let c = first f in cc)
 
 module _ (m : Msg) (s s' : List ℕ) (n : ℕ) where
-  pub written_within : Encodes m s (Upto n) s' → n ≤ length s'
+  pub written_within : Encodes m s (Ok n) s' → n ≤ length s'
   written_within e = (written (encode m) s s' n e).1
 
   -- theorem A at the octets that the writer left
-  pub written_back : Encodes m s (Upto n) s' → decode (take n s') ≡ ok m
+  pub written_back : Encodes m s (Ok n) s' → decode (take n s') ≡ ok m
   written_back e = written_is_read m (take n s') (written (encode m) s s' n e).0
 
   -- what is written is read, by any reader that keeps the reader's promise
-  pub round_trip : Encodes m s (Upto n) s' → (d : Decoded) → d ≡ decoded (take n s') (decode (take n s')) → ReadBack m s d s'
+  pub round_trip : Encodes m s (Ok n) s' → (d : Decoded) → d ≡ decoded (take n s') (decode (take n s')) → ReadBack m s d s'
   round_trip e d f =
       let w = written (encode m) s s' n e in
       record {
@@ -61,15 +59,15 @@ module _ (m : Msg) (s s' : List ℕ) (n : ℕ) where
         room = second e;
       }
 
-  pub no_trip : Encodes m s (Not n) s' → (d : Decoded) → d ≡ no_message n → ReadBack m s d s'
-  unfolding decoded
-  no_trip e d k = record { same = k ∙ ap (λ o. decoded (octets_by (encode m)) o) (go (encode m) e); room = second e }
-    where
-      go : (o : Outcome (List ℕ)) → ◌≡◌ {A = Wrote × List ℕ} (Not n, s') (filled o s) → refuse n ≡ back_by o m (length s)
-      go (refuse k) e = let c : Not n ≡ Not k = first e in let z : n ≡ k = cc in rw z
-      go (ok os) e = pick (leb (length os) (length s)) refl e
-        where
-          pick : (t : Bool) → leb (length os) (length s) ≡ t → ◌≡◌ {A = Wrote × List ℕ} (Not n, s') (pick_room t (Upto (length os), os ++ drop (length os) s) (Not 9, s))
-              → refuse n ≡ cond (leb (length os) (length s)) (ok m) (refuse 9)
-          pick true k f = absurd (apart (sym (first f)))
-          pick false k f = let c : Not n ≡ Not 9 = first f in let z : n ≡ 9 = cc in rw (k, z)
+pub no_trip : (m : Msg) (s s' : List ℕ) (r : Refusal) (n : ℕ) → Encodes m s (Err r) s' → n ≡ refusal_number r → (d : Decoded) → d ≡ no_message n → ReadBack m s d s'
+unfolding decoded
+no_trip m s s' r n e f d k = record { same = k ∙ ap no_message f ∙ ap (λ o. decoded (octets_by (encode m)) o) (go (encode m) e); room = second e }
+  where
+    go : (o : Outcome (List ℕ)) → ◌≡◌ {A = Outcome ℕ × List ℕ} (refuse (refusal_number r), s') (filled o s) → refuse (refusal_number r) ≡ back_by o m (length s)
+    go (refuse k) e = let c = first e in cc
+    go (ok os) e = pick (leb (length os) (length s)) refl e
+      where
+        pick : (t : Bool) → leb (length os) (length s) ≡ t → ◌≡◌ {A = Outcome ℕ × List ℕ} (refuse (refusal_number r), s') (cond t (ok (length os), os ++ drop (length os) s) (refuse 9, s))
+            → refuse (refusal_number r) ≡ cond (leb (length os) (length s)) (ok m) (refuse 9)
+        pick true k f = absurd (let c = first f in cc)
+        pick false k f = let c = first f in let z : refusal_number r ≡ 9 = cc in rw (k, z)

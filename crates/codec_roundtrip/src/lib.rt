@@ -6,7 +6,6 @@ ghost use Rattle.codec_size.specs.Sizes.{given};
 
 use codec_read::{Decoded, refused};
 use codec_read_fast::decode;
-use codec_size::Wrote;
 use codec_write::encode;
 
 // A message written and read back from the octets written.
@@ -19,9 +18,8 @@ pub fn encode_decode(
 ) -> Decoded
     ensures { ReadBack (given number values.now ids.now octets.now) out.old result out.new }
 {
-    let w = encode(number, values, ids, octets, out);
-    match w {
-        Wrote::Not(n) => refused(n),
-        Wrote::Upto(n) => decode(&out[..n]),
+    match encode(number, values, ids, octets, out) {
+        Err(r) => refused(r.into()),
+        Ok(n) => decode(&out[..n]),
     }
 }

@@ -18,23 +18,21 @@ use Rattle.codec_octets.specs.Places.{left_at}
 use Rattle.codec_table.specs.Columns.{fields_of, tail_of, tail_at, count_at, form_at, row_from, last_field}
 use Rattle.codec_octets.proofs.Bits.{next_within, next_across}
 use Rattle.codec_table.proofs.ColumnLaws.{length_fields, row_from_lem, one_more, no_tail, count_few, count_one_more}
-use Rattle.codec_size.specs.Sizes.{pick_wrote, field_end, fields_end, fields_upto, tail_upto, items_for, given, extent, headed, at_most, body_upto}
-use Rattle.codec_size.specs.declared.Wrote.{Wrote}
-use Rattle.codec_size.specs.declared.Wrote.TheVariants.{Upto, Not}
+use Rattle.codec_size.specs.Sizes.{field_end, fields_end, fields_upto, tail_upto, items_for, given, extent, headed, at_most, body_upto}
 use Rattle.codec_size.proofs.TailSizes.{long_string}
 use Rattle.codec_size.proofs.FieldEnds.{left_end, sound_these, fields_grow}
 
 -- the size of the fields and what follows them
-joined : Wrote → Wrote → Wrote
-joined (Not n) t = Not n
-joined (Upto e) (Not n) = Not n
-joined (Upto e) (Upto k) = at_most ((e + 7) / 8 + k)
+joined : Outcome ℕ → Outcome ℕ → Outcome ℕ
+joined (refuse n) t = refuse n
+joined (ok e) (refuse n) = refuse n
+joined (ok e) (ok k) = at_most ((e + 7) / 8 + k)
 
-pick_both : (a b : Bool) (x y : Wrote) → x ≡ pick_wrote b y (Not 8) → pick_wrote a x (Not 8) ≡ pick_wrote (a && b) y (Not 8)
+pick_both : (a b : Bool) (x y : Outcome ℕ) → x ≡ cond b y (refuse 8) → cond a x (refuse 8) ≡ cond (a && b) y (refuse 8)
 pick_both true b x y e = e
 pick_both false b x y e = refl
 
-fields_upto_lem : (fs : List Field) (vs : List ℕ) (at : ℕ) → fields_upto fs vs at ≡ pick_wrote (fits_fields fs vs) (Upto (fields_end fs vs at)) (Not 8)
+fields_upto_lem : (fs : List Field) (vs : List ℕ) (at : ℕ) → fields_upto fs vs at ≡ cond (fits_fields fs vs) (ok (fields_end fs vs at)) (refuse 8)
 unfolding fields_upto
 fields_upto_lem [] [] at = refl
 fields_upto_lem [] (v ∷ vs) at = refl
@@ -47,33 +45,33 @@ module _ (at : ℕ) (fs : List Field) (k : ℕ) (vs items : List ℕ) where
   joined_is = rw (fields_upto_lem fs vs at) (go (fits_fields fs vs) (in_tail (tail_of k) items) (fits_tail (tail_of k) items) refl refl refl)
     where
       go : (a b c : Bool) → fits_fields fs vs ≡ a → in_tail (tail_of k) items ≡ b → fits_tail (tail_of k) items ≡ c
-          → joined (pick_wrote (fits_fields fs vs) (Upto (fields_end fs vs at)) (Not 8))
-          (pick_wrote (in_tail (tail_of k) items) (pick_wrote (fits_tail (tail_of k) items) (Upto (length (write_tail (tail_of k) items))) (Not 4)) (Not 8))
-          ≡ pick_wrote (fits_fields fs vs && in_tail (tail_of k) items) (at_most ((fields_end fs vs at + 7) / 8 + length (write_tail (tail_of k) items))) (Not 8)
+          → joined (cond (fits_fields fs vs) (ok (fields_end fs vs at)) (refuse 8))
+          (cond (in_tail (tail_of k) items) (cond (fits_tail (tail_of k) items) (ok (length (write_tail (tail_of k) items))) (refuse 4)) (refuse 8))
+          ≡ cond (fits_fields fs vs && in_tail (tail_of k) items) (at_most ((fields_end fs vs at + 7) / 8 + length (write_tail (tail_of k) items))) (refuse 8)
       go true true true p q r = simp (p, q, r)
       go true true false p q r =
           simp (p, q, r, lt-leb ((fields_end fs vs at + 7) / 8 + length (write_tail (tail_of k) items)) message_limit (omega (arith, long_string k items q r)))
       go true false c p q r = simp (p, q)
       go false b c p q r = simp p
 
-  module _ (f : Wrote) (e : f ≡ fields_upto fs vs at) where
-    pub body_not : (n : ℕ) → f ≡ Not n → Not n ≡ body_upto at fs (tail_of k) vs items
+  module _ (f : Outcome ℕ) (e : f ≡ fields_upto fs vs at) where
+    pub body_not : (n : ℕ) → f ≡ refuse n → {w : Outcome ℕ} → w ≡ f → w ≡ body_upto at fs (tail_of k) vs items
     unfolding joined
-    body_not n g = ap (λ x. joined x (tail_upto (tail_of k) items)) (sym g ∙ e) ∙ joined_is
+    body_not n g h = h ∙ g ∙ ap (λ x. joined x (tail_upto (tail_of k) items)) (sym g ∙ e) ∙ joined_is
 
-    module _ (u : Wrote) (g : u ≡ tail_upto (tail_of k) items) (end : ℕ) (to : f ≡ Upto end) where
-      pub body_tail_not : (n : ℕ) → u ≡ Not n → Not n ≡ body_upto at fs (tail_of k) vs items
+    module _ (u : Outcome ℕ) (g : u ≡ tail_upto (tail_of k) items) (end : ℕ) (to : f ≡ ok end) where
+      pub body_tail_not : (n : ℕ) → u ≡ refuse n → {w : Outcome ℕ} → w ≡ u → w ≡ body_upto at fs (tail_of k) vs items
       unfolding joined
-      body_tail_not n l = ap (λ x. joined (Upto end) x) (sym l ∙ g) ∙ ap (λ x. joined x (tail_upto (tail_of k) items)) (sym to ∙ e) ∙ joined_is
+      body_tail_not n l h = h ∙ l ∙ ap (λ x. joined (ok end) x) (sym l ∙ g) ∙ ap (λ x. joined x (tail_upto (tail_of k) items)) (sym to ∙ e) ∙ joined_is
 
-      body_both : (n : ℕ) → u ≡ Upto n → at_most ((end + 7) / 8 + n) ≡ body_upto at fs (tail_of k) vs items
+      body_both : (n : ℕ) → u ≡ ok n → at_most ((end + 7) / 8 + n) ≡ body_upto at fs (tail_of k) vs items
       unfolding joined
-      body_both n l = ap (λ x. joined (Upto end) x) (sym l ∙ g) ∙ ap (λ x. joined x (tail_upto (tail_of k) items)) (sym to ∙ e) ∙ joined_is
+      body_both n l = ap (λ x. joined (ok end) x) (sym l ∙ g) ∙ ap (λ x. joined x (tail_upto (tail_of k) items)) (sym to ∙ e) ∙ joined_is
 
-      pub body_fine : (n : ℕ) → u ≡ Upto n → (end + 7) / 8 + n ≤ message_limit → Upto ((end + 7) / 8 + n) ≡ body_upto at fs (tail_of k) vs items
+      pub body_fine : (n : ℕ) → u ≡ ok n → (end + 7) / 8 + n ≤ message_limit → ok ((end + 7) / 8 + n) ≡ body_upto at fs (tail_of k) vs items
       body_fine n l m = rw (le-leb ((end + 7) / 8 + n) message_limit m) at (body_both n l)
 
-      pub body_over : (n : ℕ) → u ≡ Upto n → message_limit < (end + 7) / 8 + n → Not 4 ≡ body_upto at fs (tail_of k) vs items
+      pub body_over : (n : ℕ) → u ≡ ok n → message_limit < (end + 7) / 8 + n → refuse 4 ≡ body_upto at fs (tail_of k) vs items
       body_over n l m = rw (lt-leb ((end + 7) / 8 + n) message_limit m) at (body_both n l)
 
 -- how many octets the fields take
@@ -124,7 +122,7 @@ length_whole n (suc (suc form)) present fs t vs items l s h = absurd (omega arit
 pub some_octets : (at n : ℕ) (fs : List Field) (vs : List ℕ) → 6 ≤ at → 0 < (fields_end fs vs at + 7) / 8 + n
 some_octets at n fs vs h = omega (arith, fields_grow fs vs at)
 
-extent_answer : (fits : Bool) (os : List ℕ) (n : ℕ) → (fits ≡ true → length os ≡ n) → 0 < n → extent (answer fits os) ≡ pick_wrote fits (at_most n) (Not 8)
+extent_answer : (fits : Bool) (os : List ℕ) (n : ℕ) → (fits ≡ true → length os ≡ n) → 0 < n → extent (answer fits os) ≡ cond fits (at_most n) (refuse 8)
 unfolding answer
 extent_answer false os n e p = refl
 extent_answer true os n e p = go (leb (length os) message_limit) refl
@@ -268,16 +266,16 @@ module _ (n : ℕ) (vs items : List ℕ) where
 -- the size of a message as the caller gives it
 module _ (n : ℕ) (vs ids octets : List ℕ) where
   module _ (form : ℕ) (e : form ≡ form_at n) where
-    pub size_uncovered : 1 < form → Not 7 ≡ extent (encode (given n vs ids octets))
+    pub size_uncovered : 1 < form → refuse 7 ≡ extent (encode (given n vs ids octets))
     unfolding given
     size_uncovered l = sym (ap extent (encode_uncovered n vs (items_for (tail_at n) ids octets) (rw e at l)))
 
     module _ (l : form ≤ 1) (count : ℕ) (c : count ≡ count_at n) where
-      pub size_few : length vs < count → Not 8 ≡ extent (encode (given n vs ids octets))
+      pub size_few : length vs < count → refuse 8 ≡ extent (encode (given n vs ids octets))
       unfolding given
       size_few k = sym (ap extent (too_few n vs (items_for (tail_at n) ids octets) (rw e at l) (rw c at k)))
 
-      pub size_many : count + form < length vs → Not 8 ≡ extent (encode (given n vs ids octets))
+      pub size_many : count + form < length vs → refuse 8 ≡ extent (encode (given n vs ids octets))
       unfolding given
       size_many k = sym (ap extent (too_many n vs (items_for (tail_at n) ids octets) (rw e at l) (rw (c, e) at k)))
 
@@ -285,6 +283,6 @@ module _ (n : ℕ) (vs ids octets : List ℕ) where
         pub size_four : length vs ≤ 4
         size_four = omega (arith, few_fields n vs ids (rw e at l))
 
-        pub size_body : {w : Wrote} → w ≡ body_upto (6 + form) (fields_of n (length vs)) (tail_of (tail_at n)) vs (items_for (tail_at n) ids octets) → w ≡ extent (encode (given n vs ids octets))
+        pub size_body : {w : Outcome ℕ} → w ≡ body_upto (6 + form) (fields_of n (length vs)) (tail_of (tail_at n)) vs (items_for (tail_at n) ids octets) → w ≡ extent (encode (given n vs ids octets))
         unfolding given
         size_body b = (rw e at b) ∙ sym (size_is n vs (items_for (tail_at n) ids octets) (rw e at l) (rw c at least) (rw (c, e) at most))

@@ -14,10 +14,9 @@ use Rattle.codec_octets.specs.Octets.{Item, an_octet, an_id, a_number, length_oc
 use Rattle.codec_octets.proofs.OctetLaws.{both}
 use Rattle.codec_table.specs.Limits.{message_limit}
 use Rattle.codec_table.specs.Columns.{tail_of}
-use Rattle.codec_table.specs.Codec.{in_tail}
+use Rattle.codec_table.specs.Codec.{ok, refuse, in_tail}
 use Rattle.codec_table.proofs.CodecLaws.{roomy_tail, tail_fits, tail_in}
 use Rattle.codec_size.specs.Sizes.{tail_upto, item_of, limit_of, width_of}
-use Rattle.codec_size.specs.declared.Wrote.TheVariants.{Upto, Not}
 
 pub tail_none : (k : ℕ) → k ≡ 0 → tail_of k ≡ nothing
 unfolding tail_of
@@ -51,7 +50,7 @@ items_width k (v ∷ vs) =
 
 is_false : (t : Bool) → not t ≡ true → t ≡ false
 is_false false e = refl
-is_false true e = sym e
+is_false true e = cc
 
 is_true : (t : Bool) → not t ≡ false → t ≡ true
 is_true true e = refl
@@ -81,14 +80,14 @@ long_string k items h f = go (leb (length (write_tail (tail_of k) items)) messag
     go : (t : Bool) → leb (length (write_tail (tail_of k) items)) message_limit ≡ t → message_limit < length (write_tail (tail_of k) items)
     go true e =
         let z : true ≡ false = sym (short_fits k items h (leb-true (length (write_tail (tail_of k) items)) message_limit e)) ∙ f in
-        absurd (let y : ◌≡◌ {A = ℕ} 0 1 = cc in omega arith)
+        cc
     go false e = leb-false (length (write_tail (tail_of k) items)) message_limit e
 
-upto_fits : (t : Tail) (items : List ℕ) → fits_tail t items ≡ true → Upto (length (write_tail t items)) ≡ tail_upto t items
+upto_fits : (t : Tail) (items : List ℕ) → fits_tail t items ≡ true → ok (length (write_tail t items)) ≡ tail_upto t items
 unfolding tail_upto
 upto_fits t items h = simp (tail_in t items h, h)
 
-item_bad : (i : Item) (limit : ℕ) (items : List ℕ) → fits_items i items ≡ false → Not 8 ≡ tail_upto (list i limit) items
+item_bad : (i : Item) (limit : ℕ) (items : List ℕ) → fits_items i items ≡ false → refuse 8 ≡ tail_upto (list i limit) items
 unfolding tail_upto
 item_bad an_octet limit items h = simp h
 item_bad (an_id low) limit items h = simp (h, no_both (leb (length items) limit))
@@ -99,11 +98,11 @@ octets_fit [] g = refl
 octets_fit (v ∷ vs) g = both (lt-ltb v 256 (g 0)) (octets_fit vs (λ i. g (suc i)))
 
 module _ (k : ℕ) (items : List ℕ) where
-  pub size_none : (n : ℕ) → n ≡ length items → k ≡ 0 → n ≡ 0 → (Upto 0 ≡ tail_upto (tail_of k) items) × (0 ≤ 40000)
+  pub size_none : (n : ℕ) → n ≡ length items → k ≡ 0 → n ≡ 0 → (ok 0 ≡ tail_upto (tail_of k) items) × (0 ≤ 40000)
   unfolding tail_upto
   size_none n e z h = (rw (tail_none k z, eq-eqb (length items) 0 (sym e ∙ h)), omega arith)
 
-  pub size_some : (n : ℕ) → n ≡ length items → k ≡ 0 → (n ≡ 0 → ⊥) → (Not 8 ≡ tail_upto (tail_of k) items) × Unit {0}
+  pub size_some : (n : ℕ) → n ≡ length items → k ≡ 0 → (n ≡ 0 → ⊥) → (refuse 8 ≡ tail_upto (tail_of k) items) × Unit {0}
   unfolding tail_upto
   size_some n e z h = (rw (tail_none k z, ne_eqb (length items) 0 (rw e at h)), tt)
 
@@ -111,15 +110,15 @@ module _ (k : ℕ) (items : List ℕ) where
     over : leb (length items) (limit_of k) ≡ false
     over = lt-leb (length items) (limit_of k) (omega arith)
 
-    pub size_over : (k ≡ 3 → ⊥) → (Not 8 ≡ tail_upto (tail_of k) items) × Unit {0}
+    pub size_over : (k ≡ 3 → ⊥) → (refuse 8 ≡ tail_upto (tail_of k) items) × Unit {0}
     unfolding tail_upto item_of
     size_over z = (rw (tail_list k nz, ne_eqb k 3 z) (go (eqb k 1) refl), tt)
       where
-        go : (t : Bool) → eqb k 1 ≡ t → Not 8 ≡ tail_upto (list (cond (eqb k 1) (an_id 0) (an_id 1001)) (limit_of k)) items
+        go : (t : Bool) → eqb k 1 ≡ t → refuse 8 ≡ tail_upto (list (cond (eqb k 1) (an_id 0) (an_id 1001)) (limit_of k)) items
         go true q = simp (q, over)
         go false q = simp (q, over)
 
-    pub string_over : k ≡ 3 → ((i : ℕ) → get_or items i 0 < 256) → (Not 4 ≡ tail_upto (tail_of k) items) × Unit {0}
+    pub string_over : k ≡ 3 → ((i : ℕ) → get_or items i 0 < 256) → (refuse 4 ≡ tail_upto (tail_of k) items) × Unit {0}
     unfolding tail_upto item_of
     string_over z g = (rw (tail_list k nz, eq-eqb k 3 z) (simp (octets_fit items g, over)), tt)
 
@@ -141,20 +140,20 @@ module _ {k : ℕ} {items : List ℕ} {n i : ℕ} (o : Checking k items n i) whe
   next : i < n → (v : ℕ) → v ≡ get_or items i 0 → fits_items (item_of k) items ≡ fits_item (item_of k) v && fits_items (item_of k) (drop (suc i) items)
   next h v e = o.same ∙ ap (λ l. fits_items (item_of k) l) (drop-cons items i 0 (checking_at h)) ∙ rw e
 
-  pub checking_bad : i < n → (v : ℕ) → v ≡ get_or items i 0 → (t : Bool) → t ≡ fits_item (item_of k) v → not t ≡ true → (Not 8 ≡ tail_upto (tail_of k) items) × Unit {0}
+  pub checking_bad : i < n → (v : ℕ) → v ≡ get_or items i 0 → (t : Bool) → t ≡ fits_item (item_of k) v → not t ≡ true → (refuse 8 ≡ tail_upto (tail_of k) items) × Unit {0}
   checking_bad h v e t f g = (rw (tail_list k o.some) (item_bad (item_of k) (limit_of k) items (next h v e ∙ rw (← f, is_false t g))), tt)
 
   pub checking_more : i < n → (v : ℕ) → v ≡ get_or items i 0 → (t : Bool) → t ≡ fits_item (item_of k) v → not t ≡ false → Checking k items n (i + 1)
   checking_more h v e t f g =
       record { all = o.all; within = omega arith; few = o.few; some = o.some; same = rw add-one (next h v e ∙ rw (← f, is_true t g)) }
 
-  pub checking_all : n ≤ i → (l w : ℕ) → (l ≡ length (length_octets n)) × (l ≤ 2) → (w ≡ width_of k) × (w ≤ 2) → n < 16384 → (Upto (l + n * w) ≡ tail_upto (tail_of k) items) × (l + n * w ≤ 40000)
+  pub checking_all : n ≤ i → (l w : ℕ) → (l ≡ length (length_octets n)) × (l ≤ 2) → (w ≡ width_of k) × (w ≤ 2) → n < 16384 → (ok (l + n * w) ≡ tail_upto (tail_of k) items) × (l + n * w ≤ 40000)
   checking_all h l w p q m =
       let few : leb (length items) (limit_of k) ≡ true = le-leb (length items) (limit_of k) (omega (arith, o.all, o.few)) in
       let fits : fits_items (item_of k) items ≡ true = o.same ∙ rw (drop_of_length-le items {i = i} (omega (arith, o.all))) in
       let size : l + n * w ≡ length (write_tail (list (item_of k) (limit_of k)) items) =
       rw (length-append (length_octets (length items)) (write_items (item_of k) items), items_width k items, p.0, q.0, o.all) in (
-        rw (tail_list k o.some) (ap Upto size ∙ upto_fits (list (item_of k) (limit_of k)) items (both few fits)),
+        rw (tail_list k o.some) (ap ok size ∙ upto_fits (list (item_of k) (limit_of k)) items (both few fits)),
         twice n w l q.1 p.1 m,
       )
     where

@@ -5,56 +5,57 @@ ghost use Rattle.std.specs.Prelude.{◌≡◌, ◌+◌, ◌≤◌, ◌<◌, leng
 ghost use Rattle.codec_octets.specs.Octets.{an_id, a_number, length_octets, fits_item};
 ghost use Rattle.codec_table.specs.Messages.{code, item};
 ghost use Rattle.codec_table.specs.Columns.{packed_at, field_of, fields_of, tail_of, tail_at};
-ghost use Rattle.codec_size.specs.Sizes.{Below, field_upto, fields_upto, tail_upto, body_upto, items_for, given, extent, encode_of, item_of, limit_of, width_of};
+ghost use Rattle.codec_size.specs.Sizes.{outcome_of, Below, field_upto, fields_upto, tail_upto, body_upto, items_for, given, extent, encode_of, item_of, limit_of, width_of};
 
-use codec_octets::{octets_of, wide};
+use codec_octets::{Refusal, octets_of, wide};
 use codec_table::{
     LIST_LIMIT, MESSAGE_LIMIT, STRING_LIMIT, count_in, entry_of, form_in, kind_in, tail_in,
 };
 
-// How far something goes: octets, or for a field the bit behind it. Or a refusal.
-#[derive(Clone, Copy)]
-pub enum Wrote {
-    Upto(usize),
-    Not(u8),
+// Whether a value is an id above the lowest of its kind.
+fn fits_id(low: u32, v: u32) -> bool
+    ensures { result ≡ fits_item (an_id low) v }
+{
+    low <= v && v <= 65535
 }
 
-// The bit behind a field that starts at a bit, by its kind in the table of messages; or 8 where its value is out of range.
-fn code_end(at: usize, width: usize, most: u32, v: u32) -> Wrote
+// The bit behind a field that starts at a bit, by its kind in the table of messages; or TooLong where its value is out of range.
+#[tactic(auto, unfolding(crate::specs::Sizes::field_upto))]
+fn code_end(at: usize, width: usize, most: u32, v: u32) -> Result<usize, Refusal>
     requires { (at ≤ 1000) × (width ≤ 8) }
-    ensures { (result ≡ field_upto (code width most) v at) × Below (at + 48) result }
+    ensures { (outcome_of result ≡ field_upto (code width most) v at) × Below (at + 48) result }
 {
     if v <= most {
-        Wrote::Upto(at + width)
+        Ok(at + width)
     } else {
-        Wrote::Not(8)
+        Err(Refusal::TooLong)
     }
 }
 
-fn id_end(at: usize, low: u32, v: u32) -> Wrote
+#[tactic(auto, unfolding(crate::specs::Sizes::field_upto))]
+fn id_end(at: usize, low: u32, v: u32) -> Result<usize, Refusal>
     requires { at ≤ 1000 }
-    ensures { (result ≡ field_upto (item (an_id low)) v at) × Below (at + 48) result }
+    ensures { (outcome_of result ≡ field_upto (item (an_id low)) v at) × Below (at + 48) result }
 {
-    if v < low {
-        return Wrote::Not(8);
+    if fits_id(low, v) {
+        Ok(((at + 7) / 8 + 2) * 8)
+    } else {
+        Err(Refusal::TooLong)
     }
-    if 65535 < v {
-        return Wrote::Not(8);
-    }
-    Wrote::Upto(((at + 7) / 8 + 2) * 8)
 }
 
-fn number_end(at: usize, v: u32) -> Wrote
+fn number_end(at: usize, v: u32) -> Result<usize, Refusal>
     requires { at ≤ 1000 }
-    ensures { (result ≡ field_upto (item a_number) v at) × Below (at + 48) result }
+    ensures { (outcome_of result ≡ field_upto (item a_number) v at) × Below (at + 48) result }
 {
     let k = octets_of(v);
-    Wrote::Upto(((at + 7) / 8 + (1 + k)) * 8)
+    Ok(((at + 7) / 8 + (1 + k)) * 8)
 }
 
-fn field_end(kind: u8, v: u32, at: usize) -> Wrote
+#[tactic(auto, using(codec_table::proofs::ColumnLaws::kind_rest, codec_table::proofs::ColumnLaws::none_of), unfolding(codec_table::specs::Columns::field_of))]
+fn field_end(kind: u8, v: u32, at: usize) -> Result<usize, Refusal>
     requires { at ≤ 1000 }
-    ensures { (result ≡ field_upto (field_of kind) v at) × Below (at + 48) result }
+    ensures { (outcome_of result ≡ field_upto (field_of kind) v at) × Below (at + 48) result }
 {
     match kind {
         0 => code_end(at, 4, 15, v),
@@ -68,25 +69,16 @@ fn field_end(kind: u8, v: u32, at: usize) -> Wrote
     }
 }
 
-// The bit behind the fields of a message, by its number and the line of the table that is looked up for it once; or 8.
-fn fields_end(number: u32, line: u32, from: usize, values: &[u32]) -> Wrote
+// The bit behind the fields of a message, by its number and the line of the table that is looked up for it once; or TooLong.
+fn fields_end(number: u32, line: u32, from: usize, values: &[u32]) -> Result<usize, Refusal>
     requires { (from ≤ 8) × (length values.now ≤ 4) × (line ≡ packed_at number) }
-    ensures { (result ≡ fields_upto (fields_of number (length values.now)) values.now from) × Below 200 result }
+    ensures { (outcome_of result ≡ fields_upto (fields_of number (length values.now)) values.now from) × Below 200 result }
 {
     let mut at = from;
-    let mut i = 0;
-    while i < values.len() {
-        let kind = kind_in(line, i);
-        let g = field_end(kind, values[i], at);
-        match g {
-            Wrote::Not(n) => return Wrote::Not(n),
-            Wrote::Upto(next) => {
-                at = next;
-                i += 1;
-            }
-        }
+    for (i, v) in values.iter().enumerate() {
+        at = field_end(kind_in(line, i), *v, at)?;
     }
-    Wrote::Upto(at)
+    Ok(at)
 }
 
 // What follows the fields, by its kind in the table of messages: octets for a string, else ids.
@@ -111,27 +103,25 @@ pub fn item_at(kind: u8, ids: &[u16], octets: &[u8], i: usize) -> u32
 }
 
 // An item of a list: whether it fits, how many there may be, how many octets each takes; and how many its length takes.
+#[tactic(auto, unfolding(crate::specs::Sizes::item_of))]
 fn fits_item(kind: u8, v: u32) -> bool
     ensures { result ≡ fits_item (item_of kind) v }
 {
-    if kind == 3 {
-        return v < 256;
+    match kind {
+        3 => v < 256,
+        1 => fits_id(0, v),
+        _ => fits_id(1001, v),
     }
-    if kind == 1 {
-        return v <= 65535;
-    }
-    if v < 1001 {
-        return false;
-    }
-    v <= 65535
 }
 
+#[tactic(auto, unfolding(crate::specs::Sizes::limit_of))]
 fn limit_of(kind: u8) -> usize
     ensures { (result ≡ limit_of kind) × (result < 16384) }
 {
     if kind == 3 { STRING_LIMIT } else { LIST_LIMIT }
 }
 
+#[tactic(auto, unfolding(crate::specs::Sizes::width_of))]
 fn item_size(kind: u8) -> usize
     ensures { (result ≡ width_of kind) × (result ≤ 2) }
 {
@@ -144,35 +134,33 @@ fn length_size(n: usize) -> usize
     if n < 128 { 1 } else { 2 }
 }
 
-// How many octets what follows the fields takes; or 8; or 4 for a string beyond any message.
-fn tail_size(kind: u8, ids: &[u16], octets: &[u8]) -> Wrote
-    ensures { (result ≡ tail_upto (tail_of kind) (items_for kind ids.now octets.now)) × Below 40000 result }
+// How many octets what follows the fields takes; or TooLong; or WrongLength for a string beyond any message.
+fn tail_size(kind: u8, ids: &[u16], octets: &[u8]) -> Result<usize, Refusal>
+    ensures { (outcome_of result ≡ tail_upto (tail_of kind) (items_for kind ids.now octets.now)) × Below 40000 result }
 {
     let n = items_len(kind, ids, octets);
     if kind == 0 {
         if n == 0 {
-            return Wrote::Upto(0);
+            return Ok(0);
         }
-        return Wrote::Not(8);
+        return Err(Refusal::TooLong);
     }
     if limit_of(kind) < n {
-        if kind == 3 {
-            return Wrote::Not(4);
+        let is_string = kind == 3;
+        if is_string {
+            return Err(Refusal::WrongLength);
         }
-        return Wrote::Not(8);
+        return Err(Refusal::TooLong);
     }
-    let mut i = 0;
-    while i < n {
-        let v = item_at(kind, ids, octets, i);
-        if !fits_item(kind, v) {
-            return Wrote::Not(8);
+    for i in 0..n {
+        if !fits_item(kind, item_at(kind, ids, octets, i)) {
+            return Err(Refusal::TooLong);
         }
-        i += 1;
     }
-    Wrote::Upto(length_size(n) + n * item_size(kind))
+    Ok(length_size(n) + n * item_size(kind))
 }
 
-// How many octets a message takes by its fields and what follows them; or 8; or 4 above the limit.
+// How many octets a message takes by its fields and what follows them; or TooLong; or WrongLength above the limit.
 fn body_size(
     number: u32,
     line: u32,
@@ -180,45 +168,42 @@ fn body_size(
     values: &[u32],
     ids: &[u16],
     octets: &[u8],
-) -> Wrote
+) -> Result<usize, Refusal>
     requires { (from ≤ 8) × (length values.now ≤ 4) × (line ≡ packed_at number) }
-    ensures { result ≡ body_upto from (fields_of number (length values.now)) (tail_of (tail_at number)) values.now (items_for (tail_at number) ids.now octets.now) }
+    ensures { outcome_of result ≡ body_upto from (fields_of number (length values.now)) (tail_of (tail_at number)) values.now (items_for (tail_at number) ids.now octets.now) }
 {
-    let f = fields_end(number, line, from, values);
-    match f {
-        Wrote::Not(n) => Wrote::Not(n),
-        Wrote::Upto(at) => {
-            let t = tail_size(tail_in(line), ids, octets);
-            match t {
-                Wrote::Not(n) => Wrote::Not(n),
-                Wrote::Upto(k) => {
-                    let size = (at + 7) / 8 + k;
-                    if size <= MESSAGE_LIMIT {
-                        Wrote::Upto(size)
-                    } else {
-                        Wrote::Not(4)
-                    }
-                }
-            }
-        }
+    let at = fields_end(number, line, from, values)?;
+    let k = tail_size(tail_in(line), ids, octets)?;
+    let size = (at + 7) / 8 + k;
+    let fits = size <= MESSAGE_LIMIT;
+    if fits {
+        Ok(size)
+    } else {
+        Err(Refusal::WrongLength)
     }
 }
 
 // How many octets a message takes, or its refusal.
-fn message_size(number: u32, line: u32, values: &[u32], ids: &[u16], octets: &[u8]) -> Wrote
+fn message_size(
+    number: u32,
+    line: u32,
+    values: &[u32],
+    ids: &[u16],
+    octets: &[u8],
+) -> Result<usize, Refusal>
     requires { line ≡ packed_at number }
-    ensures { result ≡ extent (encode_of (given number values.now ids.now octets.now)) }
+    ensures { outcome_of result ≡ extent (encode_of (given number values.now ids.now octets.now)) }
 {
     let form = form_in(line) as usize;
     if 1 < form {
-        return Wrote::Not(7);
+        return Err(Refusal::NotServed);
     }
     let count = count_in(line);
     if values.len() < count {
-        return Wrote::Not(8);
+        return Err(Refusal::TooLong);
     }
     if count + form < values.len() {
-        return Wrote::Not(8);
+        return Err(Refusal::TooLong);
     }
     body_size(number, line, 6 + form, values, ids, octets)
 }
@@ -227,11 +212,11 @@ fn message_size(number: u32, line: u32, values: &[u32], ids: &[u16], octets: &[u
 #[derive(Clone, Copy)]
 pub struct Measured {
     pub line: u32,
-    pub size: Wrote,
+    pub size: Result<usize, Refusal>,
 }
 
 pub fn measure(number: u32, values: &[u32], ids: &[u16], octets: &[u8]) -> Measured
-    ensures { (result.line ≡ packed_at number) × (result.size ≡ extent (encode_of (given number values.now ids.now octets.now))) }
+    ensures { (result.line ≡ packed_at number) × (outcome_of result.size ≡ extent (encode_of (given number values.now ids.now octets.now))) }
 {
     let line = entry_of(number);
     let size = message_size(number, line, values, ids, octets);

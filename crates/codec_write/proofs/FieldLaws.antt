@@ -150,3 +150,8 @@ module _ {s : List ℕ} {at : ℕ} {f : Field} {v : ℕ} (a : MayPut s at f v) w
   number_asks e =
       let b : MayPut s at (item a_number) v = rw e at a in
       omega (arith, b.room)
+
+  pub item_field : (i : Item) → f ≡ item i → {s' : List ℕ} {k : ℕ} → Lays s ((at + 7) / 8) (write_item i v) s' k → PutsField s at f v s' (k * 8)
+  item_field i e l =
+      let b : MayPut s at (item i) v = rw e at a in
+      rw e (item_puts _ l (omega (arith, b.room)))

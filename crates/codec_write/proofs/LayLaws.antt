@@ -1,65 +1,45 @@
 -- Octets laid one behind the other: what `put_octets` and the writers of lengths, ids and integers leave. Assumes nothing.
-use mathlib.Core.Path.{◌≡◌, refl, sym, ap, ◌∙◌}
+use mathlib.Core.Path.{◌≡◌, refl, ap, ◌∙◌}
 use mathlib.Core.Bool.{true}
-use mathlib.Core.List.{List, [], ◌∷◌, ◌++◌, append_assoc, append-nil}
-use Prim.Native.Nat.{ℕ, suc, ◌+◌, ◌-◌, ◌*◌, ◌/◌, ◌%◌, ◌^◌, ◌<◌, ◌≤◌}
-use native.Mathlib.Nat.{div-lt_iff_lt-mul, mod-eq_of_lt, mod-lt, one-le-pow, pow-succ', div-one}
-use native.Mathlib.Numerals.{add-one}
+use mathlib.Core.List.{List, [], ◌∷◌, ◌++◌, append_assoc}
+use Prim.Native.Nat.{ℕ, zero, suc, ◌+◌, ◌-◌, ◌^◌, ◌<◌, ◌≤◌}
+use native.Mathlib.Nat.{div-one}
 use native.Mathlib.Omega.{arith}
-use lib.ListN.{length, take, set, length-set, length-append}
-use lib.Seq.{take-suc-set}
+use lib.ListN.{length, take, drop, length-append, length-take, length-drop}
+use lib.Seq.{take_all}
 use lib.Dec.{leb}
 use borrow.Author.Tests.{le-ltb, lt-ltb, leb-true}
+use Rattle.std.specs.Int.{w32, to_be_bytes}
+use Rattle.std.proofs.lemmas.Slice.{take-put_mid}
+use borrow.Rule.Slice.PartMut.{put_mid, same_len_mid}
 use Rattle.codec_octets.specs.Octets.{octets_of, length_octets, size, fits_item, write_item, an_id, a_number}
 use Rattle.codec_octets.proofs.OctetLaws.{size_holds, both_left, both_right}
 use Rattle.codec_size.proofs.LengthLaws.{length_octets_lem, length_one, number_length}
 use Rattle.codec_write.specs.Writing.{Lays}
 
-pub unit_pos : (k u : ℕ) → u ≡ 256 ^ k → 0 < u
-unit_pos k u e = rw e (one-le-pow k 256 (omega arith))
+-- the last k of the four octets of a number that they hold
+next_octet : {a b : ℕ} {os ps : List ℕ} → a ≡ b → os ≡ ps → a ∷ os ≡ b ∷ ps
+next_octet e f = rw (e, f)
 
--- `left` of the octets are still to come
-pub record Laying (s₀ : List ℕ) (i k v : ℕ) (s : List ℕ) (rest left at : ℕ) : Type 0 where
-  pub within : left ≤ k
-  pub place : at + left ≡ i + k
-  pub room : i + k ≤ length s₀
-  pub small : rest < 256 ^ left
-  pub lays : take at s ++ octets_of left rest ≡ take i s₀ ++ octets_of k v
-  pub size : length s ≡ length s₀
+last_octets : (k v : ℕ) → k ≤ 4 → v < 256 ^ k → drop (4 - k) (to_be_bytes w32 v) ≡ octets_of k v
+last_octets zero v h l = refl
+last_octets (suc zero) v h l = next_octet (omega arith) refl
+last_octets (suc (suc zero)) v h l = next_octet (omega arith) (next_octet (omega arith) refl)
+last_octets (suc (suc (suc zero))) v h l = next_octet (omega arith) (next_octet (omega arith) (next_octet (omega arith) refl))
+last_octets (suc (suc (suc (suc zero)))) v h l = next_octet (omega arith) (next_octet (omega arith) (next_octet (omega arith) (next_octet (omega arith) refl)))
+last_octets (suc (suc (suc (suc (suc k))))) v h l = absurd (omega arith)
 
-pub laying_none : (s : List ℕ) (i k v : ℕ) → i + k ≤ length s → v < 256 ^ k → Laying s i k v s v k i
-laying_none s i k v h l = record { within = omega arith; place = refl; room = h; small = l; lays = refl; size = refl }
-
-module _ {s₀ : List ℕ} {i k v : ℕ} {s : List ℕ} {rest left at : ℕ} (o : Laying s₀ i k v s rest left at) where
-  pub laying_room : 0 < left → at < length s
-  laying_room h = omega (arith, o.place, o.room, o.size)
-
-  pub laying_more : 0 < left → (u : ℕ) → u ≡ 256 ^ (left - 1) → Laying s₀ i k v (set s at (rest / u % 256)) (rest % u) (left - 1) (at + 1)
-  laying_more h u e = go (left - 1) (omega arith) e
-    where
-      go : (l : ℕ) → left ≡ suc l → u ≡ 256 ^ l → Laying s₀ i k v (set s at (rest / u % 256)) (rest % u) l (at + 1)
-      go l d e =
-          let p : 0 < 256 ^ l = one-le-pow l 256 (omega arith) in
-          let whole : rest < 256 * 256 ^ l = rw (d, pow-succ') at o.small in
-          let top : rest / u < 256 = rw e ((div-lt_iff_lt-mul {k = 256 ^ l} p).1 whole) in
-          let x : rest / u % 256 ≡ rest / u = mod-eq_of_lt top in
-          record {
-            within = omega (arith, o.within);
-            place = omega (arith, o.place);
-            room = o.room;
-            small = rw e (mod-lt rest p);
-            lays = rw (x, add-one, take-suc-set s at (rest / u) (laying_room (omega arith)), append_assoc, e) (rw d at o.lays);
-            size = length-set s at (rest / u % 256) ∙ o.size;
-          }
-
-  pub laying_all : left ≤ 0 → Lays s₀ i (octets_of k v) s at
-  laying_all h =
-      let z : left ≡ 0 = omega arith in
-      record {
-        lays = sym (append-nil (take at s)) ∙ rw z at o.lays;
-        ends = rw (length_octets_lem k v) (omega (arith, o.place));
-        size = o.size;
-      }
+pub octets_lay : (s : List ℕ) (i k v : ℕ) {os bs : List ℕ} → i + k ≤ length s → k ≤ 4 → v < 256 ^ k → os ≡ take (4 - (4 - k)) (drop (4 - k) bs) → bs ≡ to_be_bytes w32 v
+    → Lays s i (octets_of k v) (put_mid i (i + k - i) s os) (i + k)
+octets_lay s i k v {os} {bs} room h l e f =
+    let n : length bs ≡ 4 = ap length f in
+    let same : os ≡ octets_of k v = e ∙ take_all (4 - (4 - k)) (drop (4 - k) bs) (simp length-drop (omega arith)) ∙ rw f (last_octets k v h l) in
+    let few : length os ≡ k = ap length same ∙ length_octets_lem k v in
+    record {
+      lays = take-put_mid i (i + k - i) s os (i + k) (omega arith) (omega arith) ∙ rw same;
+      ends = rw (length_octets_lem k v);
+      size = same_len_mid i (i + k - i) s os (simp (length-take, length-drop) (omega arith));
+    }
 
 -- one part behind the other
 pub lays_both : {s : List ℕ} {i : ℕ} {os s1 : List ℕ} {j : ℕ} {ps s2 : List ℕ} {next : ℕ} → Lays s i os s1 j → Lays s1 j ps s2 next → Lays s i (os ++ ps) s2 next

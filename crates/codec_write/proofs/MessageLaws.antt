@@ -1,12 +1,15 @@
 -- A whole message, written: what `put_head`, `put_message` and `encode` answer and write. Assumes nothing.
 use mathlib.Core.Path.{◌≡◌, refl, sym, ap, ◌∙◌}
-use mathlib.Core.Bool.{Bool, true, false, ◌&&◌}
+use mathlib.Core.Bool.{Bool, true, false, cond, ◌&&◌}
 use mathlib.Core.List.{List, ◌++◌}
 use Prim.Native.Nat.{ℕ, ◌+◌, ◌-◌, ◌*◌, ◌/◌, ◌^◌, ◌<◌, ◌≤◌}
 use native.Mathlib.Nat.{le_trans, pow-le-pow_right}
 use native.Mathlib.Omega.{arith}
 use lib.ListN.{length, take, drop}
 use lib.Dec.{leb, ltb}
+use Rattle.std.specs.Prelude.{Result, Ok, Err}
+use Rattle.codec_octets.specs.declared.refusal.Refusal.{Refusal}
+use Rattle.codec_octets.specs.declared.refusal.Refusal.TheVariants.{NoRoom}
 use borrow.Author.Tests.{lt-ltb, le-leb, lt-leb, leb-true, leb-false}
 use Rattle.codec_table.specs.Limits.{message_limit}
 use Rattle.codec_octets.specs.Octets.{Tail, fits_tail, write_tail}
@@ -18,17 +21,12 @@ use Rattle.codec_table.proofs.CodecLaws.{fields_bound, tail_in}
 use Rattle.codec_octets.specs.Places.{left_at, placed, Puts, Clear}
 use Rattle.codec_table.specs.Columns.{fields_of, tail_of, tail_at, count_at, form_at}
 use Rattle.codec_table.proofs.ColumnLaws.{known}
-use Rattle.codec_size.specs.Sizes.{pick_wrote, fields_end, items_for, given, extent, headed, at_most, body_upto}
-use Rattle.codec_size.specs.declared.Wrote.{Wrote}
-use Rattle.codec_size.specs.declared.Wrote.TheVariants.{Upto, Not}
+use Rattle.codec_size.specs.Sizes.{outcome_of, fields_end, items_for, given, extent, headed, at_most, body_upto}
 use Rattle.codec_size.proofs.TailSizes.{short_fits}
 use Rattle.codec_size.proofs.FieldEnds.{sound_these}
 use Rattle.codec_size.proofs.MessageSizes.{whole_by, answer, said, length_whole, some_octets, msg, encode_uncovered, few_fields, too_few, too_many, encode_said, size_is}
 use Rattle.codec_write.specs.Writing.{PutsFields, PutsHead, filled, Encodes}
 use Rattle.codec_write.proofs.PutLaws.{clear_none}
-
-clash : {n k : ℕ} → Upto n ≡ Not k → ⊥
-clash e = let z : ◌≡◌ {A = ℕ} 0 1 = cc in omega arith
 
 -- the head
 pub small_code : (v w : ℕ) → v < 2 ^ w → w ≤ 8 → v < 256
@@ -59,8 +57,8 @@ said_fine : {fits : Bool} {os : List ℕ} → fits ≡ true → 0 < length os �
 unfolding answer
 said_fine {fits} {os} e a b = simp (e, lt-ltb 0 (length os) a, le-leb (length os) message_limit b)
 
-opened : (at : ℕ) (fs : List Field) (t : Tail) (vs items : List ℕ) {w : Wrote} → body_upto at fs t vs items ≡ w
-    → pick_wrote (fits_fields fs vs && in_tail t items) (at_most ((fields_end fs vs at + 7) / 8 + length (write_tail t items))) (Not 8) ≡ w
+opened : (at : ℕ) (fs : List Field) (t : Tail) (vs items : List ℕ) {w : Outcome ℕ} → body_upto at fs t vs items ≡ w
+    → cond (fits_fields fs vs && in_tail t items) (at_most ((fields_end fs vs at + 7) / 8 + length (write_tail t items))) (refuse 8) ≡ w
 unfolding body_upto
 opened at fs t vs items e = e
 
@@ -76,24 +74,24 @@ pub record Fine (n : ℕ) (vs items : List ℕ) (size : ℕ) : Type 0 where
   pub short : size ≤ message_limit
 
 module _ (n : ℕ) (vs items : List ℕ) (size : ℕ) where
-  no_size : {k : ℕ} → encode (msg n vs items) ≡ refuse k → extent (encode (msg n vs items)) ≡ Upto size → ⊥
-  no_size e f = clash (sym f ∙ ap extent e)
+  no_size : {k : ℕ} → encode (msg n vs items) ≡ refuse k → extent (encode (msg n vs items)) ≡ ok size → ⊥
+  no_size e f = let c = sym f ∙ ap extent e in cc
 
-  fine : extent (encode (msg n vs items)) ≡ Upto size → Fine n vs items size
+  fine : extent (encode (msg n vs items)) ≡ ok size → Fine n vs items size
   fine e = at_form (leb (form_at n) 1) refl
     where
       at_end : (l : form_at n ≤ 1) (a : count_at n ≤ length vs) (b : length vs ≤ count_at n + form_at n)
           (f g m : Bool) → fits_fields (fields_of n (length vs)) vs ≡ f → in_tail (tail_of (tail_at n)) items ≡ g
           → leb ((fields_end (fields_of n (length vs)) vs (6 + form_at n) + 7) / 8 + length (write_tail (tail_of (tail_at n)) items)) message_limit ≡ m
-          → pick_wrote (f && g) (pick_wrote m (Upto ((fields_end (fields_of n (length vs)) vs (6 + form_at n) + 7) / 8 + length (write_tail (tail_of (tail_at n)) items))) (Not 4)) (Not 8) ≡ Upto size
+          → cond (f && g) (cond m (ok ((fields_end (fields_of n (length vs)) vs (6 + form_at n) + 7) / 8 + length (write_tail (tail_of (tail_at n)) items))) (refuse 4)) (refuse 8) ≡ ok size
           → Fine n vs items size
       at_end l a b true true true p q r e =
           let z : (fields_end (fields_of n (length vs)) vs (6 + form_at n) + 7) / 8 + length (write_tail (tail_of (tail_at n)) items) ≡ size = cc in
           let few = leb-true ((fields_end (fields_of n (length vs)) vs (6 + form_at n) + 7) / 8 + length (write_tail (tail_of (tail_at n)) items)) message_limit r in
           record { below = omega (arith, known n (omega arith)); form = l; least = a; most = b; fits = p; tail = short_fits (tail_at n) items q (omega arith); takes = z; short = omega arith }
-      at_end l a b true true false p q r e = absurd (clash (sym e))
-      at_end l a b true false m p q r e = absurd (clash (sym e))
-      at_end l a b false g m p q r e = absurd (clash (sym e))
+      at_end l a b true true false p q r e = cc
+      at_end l a b true false m p q r e = cc
+      at_end l a b false g m p q r e = cc
 
       at_most_lem : (l : form_at n ≤ 1) (a : count_at n ≤ length vs) (t : Bool) → leb (length vs) (count_at n + form_at n) ≡ t → Fine n vs items size
       at_most_lem l a true k =
@@ -109,7 +107,7 @@ module _ (n : ℕ) (vs items : List ℕ) (size : ℕ) where
       at_form true k = at_least (leb-true (form_at n) 1 k) (leb (count_at n) (length vs)) refl
       at_form false k = absurd (no_size (encode_uncovered n vs items (leb-false (form_at n) 1 k)) e)
 
-pub fine_given : (n : ℕ) (vs ids octets : List ℕ) (size : ℕ) → extent (encode (given n vs ids octets)) ≡ Upto size → Fine n vs (items_for (tail_at n) ids octets) size
+pub fine_given : (n : ℕ) (vs ids octets : List ℕ) (size : ℕ) → extent (encode (given n vs ids octets)) ≡ ok size → Fine n vs (items_for (tail_at n) ids octets) size
 unfolding given
 fine_given n vs ids octets size e = fine n vs (items_for (tail_at n) ids octets) size e
 
@@ -158,22 +156,22 @@ module _ {n : ℕ} {vs items : List ℕ} {size : ℕ} (o : Fine n vs items size)
 
 -- the room
 module _ (m : Msg) (s : List ℕ) (n : ℕ) where
-  pub filled_not : Not n ≡ extent (encode m) → Encodes m s (Not n) s
-  filled_not e = go (encode m) e
+  pub filled_not : refuse n ≡ extent (encode m) → (w : Result ℕ Refusal) → outcome_of w ≡ refuse n → Encodes m s w s
+  filled_not e w f = rw f (go (encode m) e)
     where
-      go : (o : Outcome (List ℕ)) → Not n ≡ extent o → ◌≡◌ {A = Wrote × List ℕ} (Not n, s) (filled o s)
-      go (ok os) e = absurd (clash (sym e))
+      go : (o : Outcome (List ℕ)) → refuse n ≡ extent o → ◌≡◌ {A = Outcome ℕ × List ℕ} (refuse n, s) (filled o s)
+      go (ok os) e = cc
       go (refuse k) e = rw e
 
-  pub filled_short : Upto n ≡ extent (encode m) → length s < n → Encodes m s (Not 9) s
+  pub filled_short : ok n ≡ extent (encode m) → length s < n → Encodes m s (Err NoRoom) s
   filled_short e h = go (encode m) e
     where
-      go : (o : Outcome (List ℕ)) → Upto n ≡ extent o → ◌≡◌ {A = Wrote × List ℕ} (Not 9, s) (filled o s)
+      go : (o : Outcome (List ℕ)) → ok n ≡ extent o → ◌≡◌ {A = Outcome ℕ × List ℕ} (refuse 9, s) (filled o s)
       go (ok os) e = let z : n ≡ length os = cc in rw (lt-leb (length os) (length s) (omega arith))
-      go (refuse k) e = absurd (clash e)
+      go (refuse k) e = cc
 
-  pub filled_whole : Upto n ≡ extent (encode m) → n ≤ length s → (os : List ℕ) → encode m ≡ ok os → Encodes m s (Upto n) (os ++ drop n s)
+  pub filled_whole : ok n ≡ extent (encode m) → n ≤ length s → (os : List ℕ) → encode m ≡ ok os → Encodes m s (Ok n) (os ++ drop n s)
   filled_whole e h os k =
-      let f : Upto n ≡ Upto (length os) = e ∙ ap extent k in
+      let f : ok n ≡ ok (length os) = e ∙ ap extent k in
       let z : n ≡ length os = cc in
       rw (k, ← z, le-leb n (length s) h)

@@ -1,13 +1,12 @@
 -- Writing a message into the octets lent: what each function of src/ leaves there.
-use Rattle.std.specs.Prelude.{◌≡◌, Bool, true, false, List, ◌++◌, ℕ, ◌+◌, ◌*◌, ◌/◌, ◌^◌, ◌≤◌, ◌<◌, leb, length, take, drop}
+use Rattle.std.specs.Prelude.{◌≡◌, true, cond, List, ◌++◌, ℕ, ◌+◌, ◌*◌, ◌/◌, ◌^◌, ◌≤◌, ◌<◌, leb, length, take, drop, Result}
 use Rattle.codec_table.specs.Limits.{message_limit}
 use Rattle.codec_table.specs.Messages.{Field}
 use Rattle.codec_table.specs.Codec.{left_after, fits_field, put_field, put_fields, Msg, Outcome, ok, refuse, encode}
 use Rattle.codec_octets.specs.Bits.{put_bits}
 use Rattle.codec_octets.specs.Places.{left_at, placed, Clear}
-use Rattle.codec_size.specs.declared.Wrote.{Wrote}
-use Rattle.codec_size.specs.declared.Wrote.TheVariants.{Upto, Not}
-use Rattle.codec_size.specs.Sizes.{field_end, fields_end, headed}
+use Rattle.codec_octets.specs.declared.refusal.Refusal.{Refusal}
+use Rattle.codec_size.specs.Sizes.{outcome_of, field_end, fields_end, headed}
 
 -- octets laid at octet i, up to next
 pub record Lays (s : List ℕ) (i : ℕ) (os s' : List ℕ) (next : ℕ) : Type 0 where
@@ -43,13 +42,9 @@ pub record PutsHead (number form present : ℕ) (s s' : List ℕ) (at : ℕ) : T
   pub clear : Clear s' at
 
 -- the answer and the room behind it: the octets and what was behind them; or a refusal, 9 "for too little room", "with the room untouched"
-abbrev pub pick_room : Bool → Wrote × List ℕ → Wrote × List ℕ → Wrote × List ℕ
-pick_room true a b = a
-pick_room false a b = b
+abbrev pub filled : Outcome (List ℕ) → List ℕ → Outcome ℕ × List ℕ
+filled (ok os) s = cond (leb (length os) (length s)) (ok (length os), os ++ drop (length os) s) (refuse 9, s)
+filled (refuse n) s = (refuse n, s)
 
-abbrev pub filled : Outcome (List ℕ) → List ℕ → Wrote × List ℕ
-filled (ok os) s = pick_room (leb (length os) (length s)) (Upto (length os), os ++ drop (length os) s) (Not 9, s)
-filled (refuse n) s = (Not n, s)
-
-abbrev pub Encodes : Msg → List ℕ → Wrote → List ℕ → Type 0
-Encodes m s r s' = ◌≡◌ {A = Wrote × List ℕ} (r, s') (filled (encode m) s)
+abbrev pub Encodes : Msg → List ℕ → Result ℕ Refusal → List ℕ → Type 0
+Encodes m s r s' = ◌≡◌ {A = Outcome ℕ × List ℕ} (outcome_of r, s') (filled (encode m) s)

@@ -10,8 +10,8 @@ ghost use Rattle.codec_octets.specs.Places.{Puts, Clear};
 ghost use Rattle.codec_size.specs.Sizes.{fields_end, items_for, given, extent, encode_of, item_of};
 ghost use Rattle.codec_write.specs.Writing.{Lays, MayPut, PutsField, PutsFields, PutsHead, Encodes};
 
-use codec_octets::{left_at, octets_of};
-use codec_size::{Wrote, item_at, items_len, measure};
+use codec_octets::{Refusal, left_at, octets_of};
+use codec_size::{item_at, items_len, measure};
 use codec_table::{count_in, form_in, kind_in, tail_in};
 
 // A code of some bits, written behind the bit at. What is left of the octet begun is 0.
@@ -37,38 +37,14 @@ fn put_bits(s: &mut [u8], at: usize, width: u32, v: u32)
     }
 }
 
-// 256 to the power k: what the octet with k behind it counts.
-fn unit_of(k: usize) -> u32
-    requires { k ≤ 3 }
-    ensures { result ≡ 256 ^ k }
-{
-    if k == 0 {
-        1
-    } else if k == 1 {
-        256
-    } else if k == 2 {
-        65536
-    } else {
-        16777216
-    }
-}
-
 // A number in k octets, the most significant first, from octet i on.
 fn put_octets(s: &mut [u8], i: usize, k: usize, v: u32) -> usize
     requires { (i + k ≤ length s.old) × (k ≤ 4) × (v < 256 ^ k) }
     ensures { Lays s.old i (octets_of k v) s.new result }
 {
-    let mut rest = v;
-    let mut left = k;
-    let mut at = i;
-    while 0 < left {
-        left -= 1;
-        let unit = unit_of(left);
-        s[at] = (rest / unit % 256) as u8;
-        rest = rest % unit;
-        at += 1;
-    }
-    at
+    let octets = v.to_be_bytes();
+    s[i..i + k].copy_from_slice(&octets[4 - k..]);
+    i + k
 }
 
 // A length, an id above the lowest of its kind, an integer with its length: from octet i on, to the octet behind.
@@ -108,6 +84,7 @@ fn put_code(s: &mut [u8], at: usize, width: u32, v: u32) -> usize
     at + width as usize
 }
 
+#[tactic(auto, using(crate::proofs::FieldLaws::code_puts, crate::proofs::FieldLaws::item_puts, crate::proofs::FieldLaws::code_asks, crate::proofs::FieldLaws::id_asks, crate::proofs::FieldLaws::number_asks, crate::proofs::FieldLaws::field_near, crate::proofs::LayLaws::lays_near, codec_table::proofs::ColumnLaws::kind_rest, codec_table::proofs::ColumnLaws::none_of), unfolding(codec_table::specs::Columns::field_of))]
 fn put_field(s: &mut [u8], at: usize, kind: u8, v: u32) -> usize
     requires { MayPut s.old at (field_of kind) v }
     ensures { PutsField s.old at (field_of kind) v s.new result }
@@ -130,27 +107,22 @@ fn put_fields(s: &mut [u8], from: usize, number: u32, line: u32, values: &[u32])
     ensures { PutsFields s.old from (fields_of number (length values.now)) values.now s.new result }
 {
     let mut at = from;
-    let mut i = 0;
-    while i < values.len() {
-        let kind = kind_in(line, i);
-        at = put_field(s, at, kind, values[i]);
-        i += 1;
+    for (i, v) in values.iter().enumerate() {
+        at = put_field(s, at, kind_in(line, i), *v);
     }
     (at + 7) / 8
 }
 
 // An item of a list, written.
+#[tactic(auto, using(crate::proofs::LayLaws::id_fits, crate::proofs::LayLaws::octet_lays), unfolding(codec_size::specs::Sizes::item_of))]
 fn put_item(s: &mut [u8], i: usize, kind: u8, v: u32) -> usize
     requires { (fits_item (item_of kind) v ≡ true) × (i + length (write_item (item_of kind) v) ≤ length s.old) }
     ensures { Lays s.old i (write_item (item_of kind) v) s.new result }
 {
-    if kind == 3 {
-        return put_octets(s, i, 1, v);
-    }
-    if kind == 1 {
-        put_id(s, i, 0, v)
-    } else {
-        put_id(s, i, 1001, v)
+    match kind {
+        3 => put_octets(s, i, 1, v),
+        1 => put_id(s, i, 0, v),
+        _ => put_id(s, i, 1001, v),
     }
 }
 
@@ -164,10 +136,8 @@ fn put_tail(s: &mut [u8], from: usize, kind: u8, ids: &[u16], octets: &[u8])
     }
     let n = items_len(kind, ids, octets);
     let mut at = put_length(s, from, n);
-    let mut i = 0;
-    while i < n {
+    for i in 0..n {
         at = put_item(s, at, kind, item_at(kind, ids, octets, i));
-        i += 1;
     }
 }
 
@@ -175,7 +145,7 @@ fn put_tail(s: &mut [u8], from: usize, kind: u8, ids: &[u16], octets: &[u8])
 fn present_of(count: usize, have: usize) -> u32
     ensures { (result ≡ bit (ltb count have)) × (result < 2) }
 {
-    if count < have { 1 } else { 0 }
+    u32::from(count < have)
 }
 
 fn put_head(s: &mut [u8], number: u32, form: usize, present: u32) -> usize
@@ -192,7 +162,7 @@ fn put_head(s: &mut [u8], number: u32, form: usize, present: u32) -> usize
 
 // A message, into just the octets that it takes.
 fn put_message(number: u32, line: u32, values: &[u32], ids: &[u16], octets: &[u8], out: &mut [u8])
-    requires { (line ≡ packed_at number) × (extent (encode_of (given number values.now ids.now octets.now)) ≡ Wrote.Upto (length out.old)) }
+    requires { (line ≡ packed_at number) × (extent (encode_of (given number values.now ids.now octets.now)) ≡ ok (length out.old)) }
     ensures { encode_of (given number values.now ids.now octets.now) ≡ ok out.new }
 {
     let form = form_in(line) as usize;
@@ -203,20 +173,20 @@ fn put_message(number: u32, line: u32, values: &[u32], ids: &[u16], octets: &[u8
 }
 
 // The octets of a message, at the start of the room lent: how many; or a refusal, with the room untouched.
-pub fn encode(number: u32, values: &[u32], ids: &[u16], octets: &[u8], out: &mut [u8]) -> Wrote
+pub fn encode(
+    number: u32,
+    values: &[u32],
+    ids: &[u16],
+    octets: &[u8],
+    out: &mut [u8],
+) -> Result<usize, Refusal>
     ensures { Encodes (given number values.now ids.now octets.now) out.old result out.new }
 {
     let m = measure(number, values, ids, octets);
-    let line = m.line;
-    let size = m.size;
-    match size {
-        Wrote::Not(n) => Wrote::Not(n),
-        Wrote::Upto(n) => {
-            if out.len() < n {
-                return Wrote::Not(9);
-            }
-            put_message(number, line, values, ids, octets, &mut out[..n]);
-            Wrote::Upto(n)
-        }
+    let n = m.size?;
+    if out.len() < n {
+        return Err(Refusal::NoRoom);
     }
+    put_message(number, m.line, values, ids, octets, &mut out[..n]);
+    Ok(n)
 }

@@ -7,6 +7,7 @@ use native.Mathlib.Omega.{arith}
 use lib.ListN.{length, get_or, drop, set, drop_of_length-le}
 use lib.Seq.{drop-cons}
 use lib.Dec.{eqb}
+use Rattle.std.specs.Prelude.{Ok}
 use borrow.Author.Tests.{le-leb}
 use Rattle.codec_octets.specs.Octets.{nothing}
 use Rattle.codec_table.specs.Messages.{plain, entry, row, result, user, token, status}
@@ -19,7 +20,6 @@ use Rattle.out_messages.specs.declared.Confirm.{Confirm}
 use Rattle.out_messages.specs.declared.Confirm.TheVariants.{Grab, Inhibit, Give, Release}
 use Rattle.out_messages.proofs.Confirming.{wire_confirm, number_most}
 use Rattle.codec_size.specs.Sizes.{given, items_for}
-use Rattle.codec_size.specs.declared.Wrote.TheVariants.{Upto}
 use Rattle.codec_write.specs.Writing.{Encodes}
 use Rattle.codec_write_fast.specs.Tersely.{InRange, Short, short_octets}
 
@@ -89,6 +89,6 @@ module _ {n : ℕ} {values ids octets : List ℕ} {size : ℕ} (short : Short n 
 
   pub short_encodes : (room room' : List ℕ) → 7 ≤ length room
       → room' ≡ short_octets n (get_or values 0 0) (get_or values 1 0) (get_or values 2 0) (get_or values 3 0) ++ drop 7 room
-      → Encodes (given n values ids octets) room (Upto 7) room'
+      → Encodes (given n values ids octets) room (Ok 7) room'
   short_encodes room room' h e =
       rw (is_given, confirm_encodes short.confirms.kind _ _ _ _ short.in_range, le-leb 7 (length room) h, e, short.confirms.is) refl

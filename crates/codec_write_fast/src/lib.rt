@@ -1,65 +1,38 @@
 // The short way of writing: the confirms of a token's requests, which a conference sends most. Everything else is written by the table of messages.
 #![tactic(auto)]
 
-ghost use Rattle.std.specs.Prelude.{◌≡◌, true, false, ◌++◌, length, get_or, drop};
+ghost use Rattle.std.specs.Prelude.{◌≡◌, true, false, ◌++◌, length, get_or, drop, Ok};
 ghost use Rattle.codec_size.specs.Sizes.{given};
 ghost use Rattle.codec_write.specs.Writing.{Encodes};
 ghost use Rattle.codec_write_fast.specs.Tersely.{Confirms, InRange, Short, short_octets};
 
-use codec_size::Wrote;
+use codec_octets::Refusal;
 
 // TGcf, TIcf, TVcf, TRcf.
 fn is_confirm(number: u32) -> bool
     ensures { result ≡ true → Confirms number }
 {
-    match number {
-        30 | 32 | 36 | 40 => true,
-        _ => false,
-    }
+    matches!(number, 30 | 32 | 36 | 40)
 }
 
 // Whether the fields of a confirm are in range.
 fn in_range(res: u32, user: u32, token: u32, status: u32) -> bool
     ensures { result ≡ true → InRange res user token status }
 {
-    if 15 < res {
-        return false;
-    }
-    if user < 1001 {
-        return false;
-    }
-    if 65535 < user {
-        return false;
-    }
-    if token < 1 {
-        return false;
-    }
-    if 65535 < token {
-        return false;
-    }
-    status <= 7
+    res <= 15 && 1001 <= user && user <= 65535 && 1 <= token && token <= 65535 && status <= 7
 }
 
 // Whether a message goes the short way into a room of so many octets.
 fn is_short(number: u32, values: &[u32], ids: &[u16], octets: &[u8], room: usize) -> bool
     ensures { result ≡ true → Short number values.now ids.now octets.now room }
 {
-    if values.len() != 4 {
-        return false;
-    }
-    if ids.len() != 0 {
-        return false;
-    }
-    if octets.len() != 0 {
-        return false;
-    }
-    if room < 7 {
-        return false;
-    }
-    if is_confirm(number) {
-        return in_range(values[0], values[1], values[2], values[3]);
-    }
-    false
+    let has_room = 7 <= room;
+    values.len() == 4
+        && ids.is_empty()
+        && octets.is_empty()
+        && has_room
+        && is_confirm(number)
+        && in_range(values[0], values[1], values[2], values[3])
 }
 
 // A confirm, octet by octet, at the start of the room.
@@ -82,7 +55,7 @@ fn put_confirm(number: u32, values: &[u32], ids: &[u16], octets: &[u8], out: &mu
 // A confirm at the start of the room, in its 7 octets; or nothing, and the room is untouched. Whether it is written. What is written has its fields in
 // range; that it is written where they are is not promised.
 pub fn encode_short(number: u32, values: &[u32], ids: &[u16], octets: &[u8], out: &mut [u8]) -> bool
-    ensures { (result ≡ true → Encodes (given number values.now ids.now octets.now) out.old (Wrote.Upto 7) out.new)
+    ensures { (result ≡ true → Encodes (given number values.now ids.now octets.now) out.old (Ok 7) out.new)
         × (result ≡ false → out.new ≡ out.old) }
 {
     if is_short(number, values, ids, octets, out.len()) {
@@ -93,11 +66,17 @@ pub fn encode_short(number: u32, values: &[u32], ids: &[u16], octets: &[u8], out
 }
 
 // The octets of a message, at the start of the room lent: how many; or a refusal, with the room untouched.
-pub fn encode(number: u32, values: &[u32], ids: &[u16], octets: &[u8], out: &mut [u8]) -> Wrote
+pub fn encode(
+    number: u32,
+    values: &[u32],
+    ids: &[u16],
+    octets: &[u8],
+    out: &mut [u8],
+) -> Result<usize, Refusal>
     ensures { Encodes (given number values.now ids.now octets.now) out.old result out.new }
 {
     if encode_short(number, values, ids, octets, out) {
-        return Wrote::Upto(7);
+        return Ok(7);
     }
     codec_write::encode(number, values, ids, octets, out)
 }

@@ -92,7 +92,7 @@ pub extern "C" fn ladlestorm_test_write_any(
     let ids = [0u16; 0];
     let octets = [0u8; 0];
     match codec_write::encode(number, &values, &ids, &octets, out) {
-        codec_size::Wrote::Upto(n) => (n % 64) as u32,
-        codec_size::Wrote::Not(r) => 64 + r as u32,
+        Ok(n) => (n % 64) as u32,
+        Err(r) => 64 + u8::from(r) as u32,
     }
 }

@@ -3,7 +3,6 @@ ghost use Rattle.std.specs.Prelude.{◌≤◌};
 
 use crate::{line, room};
 use codec_read::Decoded;
-use codec_size::Wrote;
 use trace_io::lines::{say, say_number};
 
 // Whether the message is written as these octets, with those behind them left as they were.
@@ -15,10 +14,9 @@ fn is_written_again(
     message: &[u8],
 ) -> bool {
     let mut out = room::fresh();
-    let wrote = codec_write::encode(number, values, ids, octets, &mut out);
-    match wrote {
-        Wrote::Upto(n) => n == message.len() && room::holds(&out, message),
-        Wrote::Not(_) => false,
+    match codec_write::encode(number, values, ids, octets, &mut out) {
+        Ok(n) => n == message.len() && room::holds(&out, message),
+        Err(_) => false,
     }
 }
 

@@ -2,7 +2,7 @@
 ghost use Rattle.std.specs.Prelude.{◌≤◌};
 
 use crate::{line, numbers, room};
-use codec_size::Wrote;
+use codec_octets::Refusal;
 
 // The line of n octets written: these, and the mark, that all behind them stayed.
 fn put_octets(text: &mut [u8], out: &[u8], n: usize) -> usize {
@@ -21,10 +21,10 @@ fn put_refused(text: &mut [u8], out: &[u8], refusal: u8) -> usize {
 }
 
 // The line of what the writer did to a room.
-fn put_outcome(text: &mut [u8], wrote: Wrote, out: &[u8]) -> usize {
+fn put_outcome(text: &mut [u8], wrote: Result<usize, Refusal>, out: &[u8]) -> usize {
     match wrote {
-        Wrote::Upto(n) => put_octets(text, out, n),
-        Wrote::Not(refusal) => put_refused(text, out, refusal),
+        Ok(n) => put_octets(text, out, n),
+        Err(refusal) => put_refused(text, out, refusal.into()),
     }
 }
 

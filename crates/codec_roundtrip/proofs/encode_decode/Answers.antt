@@ -4,13 +4,13 @@ use mathlib.Core.Path.{sym}
 use Rattle.codec_roundtrip.proofs.encode_decode.Goals as goal
 
 pub slice_bounds-decode-end : goal.slice_bounds-decode-end
-slice_bounds-decode-end c = written_within _ _ _ _ (rw c.in-Upto.is at c.encode-w.ensures)
+slice_bounds-decode-end c = written_within _ _ _ _ (rw c.in-Ok.is at c.encode.ensures)
 
-pub slice_bounds-decode-end-in-Upto : goal.slice_bounds-decode-end-in-Upto
-slice_bounds-decode-end-in-Upto c = sym (length-take-le _ _ (written_within _ _ _ _ (rw c.in-Upto.is at c.encode-w.ensures)))
+pub slice_bounds-decode-end-in-Ok : goal.slice_bounds-decode-end-in-Ok
+slice_bounds-decode-end-in-Ok c = sym (length-take-le _ _ (written_within _ _ _ _ (rw c.in-Ok.is at c.encode.ensures)))
 
-pub returns-in-Not : goal.returns-in-Not
-returns-in-Not c = no_trip _ _ _ _ (rw c.in-Not.is at c.encode-w.ensures) _ c.refused.ensures
+pub returns-in-Err : goal.returns-in-Err
+returns-in-Err c = no_trip _ _ _ _ _ (rw c.in-Err.is at c.encode.ensures) c.into.ensures _ c.refused.ensures
 
-pub returns-in-Upto : goal.returns-in-Upto
-returns-in-Upto c = round_trip _ _ _ _ (rw c.in-Upto.is at c.encode-w.ensures) _ c.decode.ensures
+pub returns-in-Ok : goal.returns-in-Ok
+returns-in-Ok c = round_trip _ _ _ _ (rw c.in-Ok.is at c.encode.ensures) _ c.decode.ensures

@@ -1,6 +1,6 @@
 use mathlib.Core.Bool.{not}
 use mathlib.Core.Path.{ap}
-use Rattle.codec_size.proofs.TailSizes.{size_none, size_some, size_over, string_over, checking_none, checking_bad, checking_more, checking_all}
+use Rattle.codec_size.proofs.TailSizes.{size_none, size_some, size_over, string_over, checking_bad, checking_all}
 use native.Mathlib.Omega.{arith}
 use borrow.Author.Tests.{eq-eqb}
 use Rattle.codec_size.proofs.tail_size.Goals as goal
@@ -11,26 +11,14 @@ returns-then-n-eq0 c = size_none _ _ _ c.items_len-n.ensures c.if-kind-eq0.true 
 pub returns-then-kind-eq0 : goal.returns-then-kind-eq0
 returns-then-kind-eq0 c = size_some _ _ _ c.items_len-n.ensures c.if-kind-eq0.true c.if-n-eq0.false
 
-pub returns-then-kind-eq3 : goal.returns-then-kind-eq3
-returns-then-kind-eq3 c = string_over _ _ c.if-kind-eq0.false _ _ c.items_len-n.ensures c.limit_of.ensures.0 c.if-limit_of-n.true c.if-kind-eq3.true (λ i. rw (eq-eqb _ 3 c.if-kind-eq3.true) (omega (arith, c.shared_slice_known-2-1.given i)))
+pub returns-then-is_string : goal.returns-then-is_string
+returns-then-is_string c = string_over _ _ c.if-kind-eq0.false _ _ c.items_len-n.ensures c.limit_of.ensures.0 c.if-limit_of-n.true c.if-is_string.true (λ i. rw (eq-eqb _ 3 c.if-is_string.true) (omega (arith, c.shared_slice_known-2-1.given i)))
 
 pub returns-then-limit_of-n : goal.returns-then-limit_of-n
-returns-then-limit_of-n c = size_over _ _ c.if-kind-eq0.false _ _ c.items_len-n.ensures c.limit_of.ensures.0 c.if-limit_of-n.true c.if-kind-eq3.false
-
-pub loop-i-init : goal.loop-i-init
-loop-i-init c = checking_none _ _ _ _ c.items_len-n.ensures c.limit_of.ensures.0 c.if-limit_of-n.false c.if-kind-eq0.false
+returns-then-limit_of-n c = size_over _ _ c.if-kind-eq0.false _ _ c.items_len-n.ensures c.limit_of.ensures.0 c.if-limit_of-n.true c.if-is_string.false
 
 pub returns-then-not-fits_item : goal.returns-then-not-fits_item
-returns-then-not-fits_item c = checking_bad c.loop-i.invariant c.loop-i-test.true _ c.item_at-v.ensures _ c.fits_item.ensures (ap not c.if-not-fits_item.true)
-
-pub loop-i-preserved : goal.loop-i-preserved
-loop-i-preserved c = checking_more c.loop-i.invariant c.loop-i-test.true _ c.item_at-v.ensures _ c.fits_item.ensures (ap not c.if-not-fits_item.false)
-
-pub overflow_mul-result : goal.overflow_mul-result
-overflow_mul-result c = omega (arith, (checking_all c.loop-i.invariant c.loop-i-test.false _ _ c.length_size.ensures c.item_size.ensures (omega (arith, c.if-limit_of-n.false, c.limit_of.ensures.1))).1)
-
-pub overflow_add-result : goal.overflow_add-result
-overflow_add-result c = omega (arith, (checking_all c.loop-i.invariant c.loop-i-test.false _ _ c.length_size.ensures c.item_size.ensures (omega (arith, c.if-limit_of-n.false, c.limit_of.ensures.1))).1)
+returns-then-not-fits_item c = checking_bad c.loop-i.invariant c.loop-i-test.true _ c.item_at.ensures _ c.fits_item.ensures (ap not c.if-not-fits_item.true)
 
 pub returns : goal.returns
 returns c = checking_all c.loop-i.invariant c.loop-i-test.false _ _ c.length_size.ensures c.item_size.ensures (omega (arith, c.if-limit_of-n.false, c.limit_of.ensures.1))
