@@ -19,7 +19,7 @@ use Rattle.codec_read.specs.Held.{padded, is_string, decoded}
 use Rattle.codec_read_fast.specs.declared.lists.Head.{Head}
 use Rattle.codec_read_fast.specs.Shortly.{IdAt}
 use Rattle.codec_read_fast.specs.Listed.{in_list, Counts, Stored, Heads}
-use Rattle.codec_read_fast.proofs.ShortLaws.{Takes, About, about, whole}
+use Rattle.codec_read_fast.proofs.ShortLaws.{Takes, About, about, First, whole}
 
 -- one item more
 item_more : (item : Item) (i : ℕ) (xs : List ℕ) {vs rest : List ℕ} {v : ℕ} {end : List ℕ} → read_items item i xs ≡ got vs rest → read_item item rest ≡ got v end
@@ -38,25 +38,25 @@ item_more item (suc i) xs {v = v} {end} e f =
 pub stored_none : (s : List ℕ) (from low : ℕ) (ids : List ℕ) → Stored s from low 0 ids
 stored_none s from low ids = let k : from ≡ from + 2 * 0 = omega arith in record { room = omega arith; read = ap (λ k. got [] (drop k s)) k }
 
-pub stored_more : {s : List ℕ} {from low i : ℕ} {ids : List ℕ} → Stored s from low i ids → (v : ℕ) → IdAt s (from + 2 * i) low v → v ≤ 65535 → i < length ids
+pub stored_more : {s : List ℕ} {from low i : ℕ} {ids : List ℕ} → Stored s from low i ids → (v : ℕ) → IdAt s (from + 2 * i) low v → i < length ids
     → Stored s from low (i + 1) (set ids i v)
-stored_more {s} {from} {low} {i} {ids} h v e m l =
+stored_more {s} {from} {low} {i} {ids} h v e l =
     let k : from + 2 * i + 1 + 1 ≡ from + 2 * suc i = omega arith in
     rw add-one
     (record {
       room = omega (arith, length-set ids i v);
-      read = rw (take-suc-set ids i v l) (item_more (an_id low) i (drop from s) h.read (e.read m ∙ ap (λ k. got v (drop k s)) k));
+      read = rw (take-suc-set ids i v l) (item_more (an_id low) i (drop from s) h.read (e.read ∙ ap (λ k. got v (drop k s)) k));
     })
 
 pub stored_all : {s : List ℕ} {from low i count : ℕ} {ids : List ℕ} → Stored s from low i ids → i ≡ count → Stored s from low count ids
 stored_all h e = rw e at h
 
 -- the list behind its count
-module _ (s : List ℕ) (at low n : ℕ) (c : Counts s at n) (few : n ≤ list_limit) (ids : List ℕ) (h : Stored s (at + 1) low n ids) where
+module _ (s : List ℕ) (at low n : ℕ) (c : Counts s at n) (ids : List ℕ) (h : Stored s (at + 1) low n ids) where
   pub list_read : read_tail (list (an_id low) list_limit) (drop at s) ≡ got (take n ids) []
   list_read =
       go_on (λ n. need (leb n list_limit) 8 (read_items (an_id low) n)) (sym (length_one s at n (omega (arith, c.whole)) c.is (omega arith)).same)
-      ∙ simp (le-leb n list_limit few) (h.read ∙ ap (λ l. got (take n ids) l) (drop_of_length-le s {i = at + 1 + 2 * n} (omega (arith, c.whole))))
+      ∙ simp (le-leb n list_limit c.few) (h.read ∙ ap (λ l. got (take n ids) l) (drop_of_length-le s {i = at + 1 + 2 * n} (omega (arith, c.whole))))
 
 -- what is known of a message by its first octet, and the octet's last 2 bits
 abbrev pub begins : ℕ → About × ℕ
@@ -66,24 +66,23 @@ begins o = (about (o / 4), o % 4)
 module _ (s : List ℕ) (o : ℕ) (is : o ≡ get_or s 0 0) (some : 0 < length s) (byte : o < 256) (b : ℕ) (fs : List Field) (vs : List ℕ) (at low : ℕ) where
   pub heads : Takes s 1 2 b fs vs (drop at s) → begins o ≡ ((plain fs (list (an_id low) list_limit), false, true, length vs), b)
       → padded 4 vs ≡ get_or vs 0 0 ∷ get_or vs 1 0 ∷ 0 ∷ 0 ∷ [] → at ≤ 5 → low ≤ 65536
-      → (h : Head) → h ≡ record { ok = true; at = at; low = low; number = o / 4; first = get_or vs 0 0; second = get_or vs 1 0 } → Heads s h
+      → Heads s (record { at = at; low = low; number = o / 4; first = get_or vs 0 0; second = get_or vs 1 0 })
   unfolding in_list decoded
-  heads t e cells near most h f =
+  heads t e cells near most =
       let a = ap (λ (x : About × ℕ). x.0) e in
       let row_is : row (o / 4) ≡ plain fs (list (an_id low) list_limit) = ap (λ (x : About). x.0) a in
       let no_string : is_string (o / 4) ≡ false = ap (λ (x : About). x.1) a in
       let count : count_at (o / 4) ≡ length vs = ap (λ (x : About). x.3) a in
       let bits : o % 4 ≡ b = ap (λ (x : About × ℕ). x.1) e in
-      rw f
-      (record {
+      record {
         near = near;
         low_most = most;
-        with_list = λ n ids c few l.
+        with_list = λ n ids c l.
             let stored : length (take n ids) ≡ n = length-take-le n ids l.room in
-            let short : length s ≤ message_limit = omega (arith, c.whole) in
+            let first : First s o b = record { is = is; some = some; few = omega (arith, c.whole); byte = byte; bits = bits } in
             record {
-              same = rw (whole s o is some short byte b bits fs vs (list (an_id low) list_limit) row_is (drop at s) (take n ids) t (list_read s at low n c few ids l), no_string, count, cells, stored) refl;
+              same = rw (whole s o b first fs vs (list (an_id low) list_limit) row_is (drop at s) (take n ids) t (list_read s at low n c ids l), no_string, count, cells, stored) refl;
               stored = stored;
               served = ap (λ (x : About). x.2) a;
             };
-      })
+      }

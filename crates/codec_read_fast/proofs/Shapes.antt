@@ -104,10 +104,6 @@ either : (a b : Bool) → b ≡ true → a || b ≡ true
 either true b h = refl
 either false b h = h
 
--- what is declined is not read
-pub declined : {b : Bool} {P Q : Type 0} → b ≡ false → Q → (b ≡ true → P) × (b ≡ false → Q)
-declined e q = (λ k. absurd (false≢true (sym e ∙ k)), λ k. q)
-
 module _ {s : List ℕ} (y : (i : ℕ) → Fits w8 (get_or s i 0)) where
   pub no_token : NoToken s → NoneRead token_number s
   unfolding few_ids token_number

@@ -30,10 +30,11 @@ pub record Listed (s : List ℕ) (l : Listing) (ids : List ℕ) : Type 0 where
   pub stored : length (take l.count ids) ≡ l.count
   pub served : is_served l.number ≡ true
 
--- an octet counts the ids behind it, which reach to the end
+-- an octet counts the ids behind it, which reach to the end and are not above the limit
 pub record Counts (s : List ℕ) (at n : ℕ) : Type 0 where
   pub is : n ≡ get_or s at 0
   pub whole : length s ≡ at + 1 + 2 * n
+  pub few : n ≤ list_limit
 
 -- so many ids are read at an octet, and stored
 pub record Stored (s : List ℕ) (from low count : ℕ) (ids : List ℕ) : Type 0 where
@@ -44,5 +45,5 @@ pub record Stored (s : List ℕ) (from low count : ℕ) (ids : List ℕ) : Type 
 pub record Heads (s : List ℕ) (h : Head) : Type 0 where
   pub near : h.at ≤ 5
   pub low_most : h.low ≤ 65536
-  pub with_list : (n : ℕ) (ids : List ℕ) → Counts s h.at n → n ≤ list_limit → Stored s (h.at + 1) h.low n ids
-      → Listed s (record { ok = true; number = h.number; first = h.first; second = h.second; count = n }) ids
+  pub with_list : (n : ℕ) (ids : List ℕ) → Counts s h.at n → Stored s (h.at + 1) h.low n ids
+      → Listed s (record { number = h.number; first = h.first; second = h.second; count = n }) ids

@@ -1,5 +1,5 @@
 -- What is read the short way: the same message as the long way gives, and one that is served and has a few ids; and that no such message is read.
-use Rattle.std.specs.Prelude.{◌≡◌, Bool, true, false, cond, ◌||◌, List, [], ◌∷◌, ℕ, ◌+◌, ◌*◌, ◌≤◌, eqb, ltb, get_or, drop}
+use Rattle.std.specs.Prelude.{◌≡◌, Bool, true, false, cond, ◌||◌, List, [], ◌∷◌, ℕ, ◌+◌, ◌*◌, ◌<◌, ◌≤◌, max, eqb, ltb, get_or, drop}
 use Rattle.codec_octets.specs.Octets.{got, an_id, read_item}
 use Rattle.codec_table.specs.Limits.{list_limit}
 use Rattle.codec_table.specs.Messages.{is_served}
@@ -59,19 +59,23 @@ pub record Wishes (s : List ℕ) (w : Wish) : Type 0 where
 abbrev pub NoneRead : (ℕ → Bool) → List ℕ → Type 0
 NoneRead test s = (m : Msg) → decode s ≡ ok m → is_served m.number ≡ true → test m.number ≡ true → ⊥
 
--- a message, and a request about a token, of these values, of which none is above 65,535
-pub record Made (number a b : ℕ) (q : Short) : Type 0 where
-  pub is : q ≡ record { ok = true; number = number; first = a; second = b }
-  pub first : a ≤ 65535
-  pub second : b ≤ 65535
+-- two octets as an id above the lowest of its kind, which is read there; or it is above 65,535
+abbrev pub id_value : (s : List ℕ) (i low : ℕ) → ℕ
+id_value s i low = get_or s i 0 * 256 + get_or s (i + 1) 0 + low
 
-pub record Wished (number user token more : ℕ) (w : Wish) : Type 0 where
-  pub is : w ≡ record { ok = true; number = number; user = user; token = token; more = more }
-  pub user_fits : user ≤ 65535
-  pub token_fits : token ≤ 65535
-  pub more_fits : more ≤ 65535
-
--- two octets as an id above the lowest of its kind; up to 65,535 it is read there
 pub record IdAt (s : List ℕ) (i low v : ℕ) : Type 0 where
-  pub is : v ≡ get_or s i 0 * 256 + get_or s (i + 1) 0 + low
-  pub read : v ≤ 65535 → read_item (an_id low) (drop i s) ≡ got v (drop (i + 1 + 1) s)
+  pub is : v ≡ id_value s i low
+  pub fits : v ≤ 65535
+  pub read : read_item (an_id low) (drop i s) ≡ got v (drop (i + 1 + 1) s)
+
+abbrev pub NoIdAt : (s : List ℕ) (i low : ℕ) → Type 0
+NoIdAt s i low = 65535 < id_value s i low
+
+-- a request about a token by its number and what it carries besides, its user and its token read from a place on; or one of the two is above 65,535
+pub record Wished (s : List ℕ) (at number more : ℕ) (w : Wish) : Type 0 where
+  pub is : w ≡ record { number = number; user = w.user; token = w.token; more = more }
+  pub user : IdAt s at 1001 w.user
+  pub token : IdAt s (at + 2) 1 w.token
+
+abbrev pub NoWish : (s : List ℕ) (at : ℕ) → Type 0
+NoWish s at = 65535 < max (id_value s at 1001) (id_value s (at + 2) 1)

@@ -5,115 +5,101 @@
 pub mod lists;
 pub mod tokens;
 
-ghost use Rattle.std.specs.Prelude.{◌≡◌, [], ◌∷◌, ◌+◌, ◌<◌, ◌≤◌, max, true, false, length};
+ghost use Rattle.std.specs.Prelude.{◌≡◌, [], ◌∷◌, ◌+◌, ◌<◌, ◌≤◌, length, MatchOption};
 ghost use Rattle.codec_read.specs.Reading.{decode_of};
 ghost use Rattle.codec_read.specs.Held.{decoded};
-ghost use Rattle.codec_read_fast.specs.Shortly.{of_values, in_full, in_words, short_number, NoneRead, Shortly, IdAt, Made};
+ghost use Rattle.codec_read_fast.specs.Shortly.{of_values, in_full, in_words, short_number, NoneRead, Shortly, IdAt, NoIdAt};
 
 use codec_octets::wide;
 use codec_read::Decoded;
 use codec_table::LIST_LIMIT;
 use tokens::Wish;
 
-// Whether a message is read; then its number, and its values, 0 where it has none.
+// The first octets of these messages: the number in the first 6 bits, and 2 bits that are 0.
+const AURQ: u8 = 10 * 4;
+
+const CJRQ: u8 = 14 * 4;
+
+const CCRQ: u8 = 17 * 4;
+
+const CDRQ: u8 = 19 * 4;
+
+// A message that is read: its number, and its values, 0 where it has none.
 #[derive(Clone, Copy)]
 pub struct Short {
-    pub ok: bool,
     pub number: u32,
     pub first: u16,
     pub second: u16,
 }
 
-// Not read.
-fn not_short() -> Short
-    ensures { result.ok ≡ false }
-{
-    Short {
-        ok: false,
-        number: 0,
-        first: 0,
-        second: 0,
-    }
-}
-
-// A message of these values, where none is above the largest id.
-fn made(number: u32, a: u32, b: u32) -> Short
-    ensures { (result.ok ≡ true → Made number a b result) × (result.ok ≡ false → 65535 < max a b) }
-{
-    if 65535 < a {
-        return not_short();
-    }
-    if 65535 < b {
-        return not_short();
-    }
-    Short {
-        ok: true,
-        number: number,
-        first: a as u16,
-        second: b as u16,
-    }
-}
-
-// The id in two octets from octet i on, above the lowest of its kind; or a number that is no id.
-fn id_at(s: &[u8], i: usize, low: u32) -> u32
+// The id in two octets from octet i on, above the lowest of its kind; none where that is above the largest id.
+fn id_at(s: &[u8], i: usize, low: u32) -> Option<u16>
     requires { (i + 1 < length s.now) × (low ≤ 65536) }
-    ensures { IdAt s.now i low result }
+    ensures { MatchOption result (NoIdAt s.now i low) (IdAt s.now i low) }
 {
-    wide(s[i]) * 256 + wide(s[i + 1]) + low
+    u16::try_from(wide(s[i]) * 256 + wide(s[i + 1]) + low).ok()
 }
 
 // AUrq.
-fn no_ids(s: &[u8]) -> Short
+fn no_ids(s: &[u8]) -> Option<Short>
     requires { length s.now ≡ 1 }
-    ensures { (result.ok ≡ true → Shortly s.now result) × (result.ok ≡ false → NoneRead short_number s.now) }
+    ensures { MatchOption result (NoneRead short_number s.now) (Shortly s.now) }
 {
-    if s[0] != 0x28 {
-        return not_short();
+    if s[0] != AURQ {
+        return None;
     }
-    made(10, 0, 0)
+    Some(Short {
+        number: 10,
+        first: 0,
+        second: 0,
+    })
 }
 
 // CCrq.
-fn one_id(s: &[u8]) -> Short
+fn one_id(s: &[u8]) -> Option<Short>
     requires { length s.now ≡ 3 }
-    ensures { (result.ok ≡ true → Shortly s.now result) × (result.ok ≡ false → NoneRead short_number s.now) }
+    ensures { MatchOption result (NoneRead short_number s.now) (Shortly s.now) }
 {
-    if s[0] != 0x44 {
-        return not_short();
+    if s[0] != CCRQ {
+        return None;
     }
-    made(17, id_at(s, 1, 1001), 0)
+    Some(Short {
+        number: 17,
+        first: id_at(s, 1, 1001)?,
+        second: 0,
+    })
 }
 
 // CJrq and CDrq: a user and a channel or a private channel.
-fn channel_ids(s: &[u8]) -> Short
+fn channel_ids(s: &[u8]) -> Option<Short>
     requires { length s.now ≡ 5 }
-    ensures { (result.ok ≡ true → Shortly s.now result) × (result.ok ≡ false → NoneRead short_number s.now) }
+    ensures { MatchOption result (NoneRead short_number s.now) (Shortly s.now) }
 {
-    let o = s[0];
-    if o == 0x38 {
-        return made(14, id_at(s, 1, 1001), id_at(s, 3, 0));
+    match s[0] {
+        CJRQ => Some(Short {
+            number: 14,
+            first: id_at(s, 1, 1001)?,
+            second: id_at(s, 3, 0)?,
+        }),
+        CDRQ => Some(Short {
+            number: 19,
+            first: id_at(s, 1, 1001)?,
+            second: id_at(s, 3, 1001)?,
+        }),
+        _ => None,
     }
-    if o == 0x4C {
-        return made(19, id_at(s, 1, 1001), id_at(s, 3, 1001));
-    }
-    not_short()
 }
 
 // The message of these octets, where it is one of those above.
-pub fn read_short(s: &[u8]) -> Short
-    ensures { (result.ok ≡ true → Shortly s.now result) × (result.ok ≡ false → NoneRead short_number s.now) }
+pub fn read_short(s: &[u8]) -> Option<Short>
+    ensures { MatchOption result (NoneRead short_number s.now) (Shortly s.now) }
 {
-    let n = s.len();
-    if n == 5 {
-        return channel_ids(s);
+    match s.len() {
+        5 => channel_ids(s),
+        1 => no_ids(s),
+        3 => one_id(s),
+        _ => None,
     }
-    if n == 1 {
-        return no_ids(s);
-    }
-    if n == 3 {
-        return one_id(s);
-    }
-    not_short()
 }
 
 // A message of these values alone, with 0 in the other cells.
@@ -146,7 +132,7 @@ fn in_full(q: Short) -> Decoded
 fn in_words(w: Wish) -> Decoded
     ensures { result ≡ in_words w }
 {
-    if w.number == 35 {
+    if w.number == tokens::TVRS {
         return of_values(w.number, w.more, w.user, w.token);
     }
     of_values(w.number, w.user, w.token, w.more)
@@ -156,12 +142,10 @@ fn in_words(w: Wish) -> Decoded
 pub fn decode(s: &[u8]) -> Decoded
     ensures { result ≡ decoded s.now (decode_of s.now) }
 {
-    let w = tokens::read_token(s);
-    if w.ok {
+    if let Some(w) = tokens::read_token(s) {
         return in_words(w);
     }
-    let q = read_short(s);
-    if q.ok {
+    if let Some(q) = read_short(s) {
         return in_full(q);
     }
     codec_read::decode(s)

@@ -1,118 +1,102 @@
 // The short way for requests about tokens: TGrq, TIrq, TVrq, TVrs, TPrq, TRrq and TTrq.
-ghost use Rattle.std.specs.Prelude.{◌≡◌, ◌<◌, max, true, false, length};
-ghost use Rattle.codec_read_fast.specs.Shortly.{token_number, NoneRead, Wishes, Wished};
+ghost use Rattle.std.specs.Prelude.{◌≡◌, ◌+◌, ◌<◌, length, MatchOption};
+ghost use Rattle.codec_read_fast.specs.Shortly.{token_number, NoneRead, Wishes, NoWish, Wished};
 
 use crate::id_at;
 use codec_octets::wide;
 
-// Whether a request is read; then its number, the user, the token, and the recipient of a TVrq or the result of a TVrs, else 0.
+// The first octets of these messages: the number in the first 6 bits, and 2 bits that are 0.
+const TGRQ: u8 = 29 * 4;
+
+const TIRQ: u8 = 31 * 4;
+
+const TVRQ: u8 = 33 * 4;
+
+const TPRQ: u8 = 37 * 4;
+
+const TRRQ: u8 = 39 * 4;
+
+const TTRQ: u8 = 41 * 4;
+
+// The number of TVrs: in its first octet stand the first 2 bits of its result.
+pub const TVRS: u32 = 35;
+
+// A request that is read: its number, the user, the token, and the recipient of a TVrq or the result of a TVrs, else 0.
 #[derive(Clone, Copy)]
 pub struct Wish {
-    pub ok: bool,
     pub number: u32,
     pub user: u16,
     pub token: u16,
     pub more: u16,
 }
 
-// Not read.
-fn no_wish() -> Wish
-    ensures { result.ok ≡ false }
+// A request by its number: the user and the token from octet `at` on, and what it carries besides.
+fn wish_at(s: &[u8], at: usize, number: u32, more: u16) -> Option<Wish>
+    requires { at + 3 < length s.now }
+    ensures { MatchOption result (NoWish s.now at) (Wished s.now at number more) }
 {
-    Wish {
-        ok: false,
-        number: 0,
-        user: 0,
-        token: 0,
-        more: 0,
-    }
-}
-
-// A request of these values, where none is above the largest id.
-fn wished(number: u32, user: u32, token: u32, more: u32) -> Wish
-    ensures { (result.ok ≡ true → Wished number user token more result) × (result.ok ≡ false → 65535 < max user (max token more)) }
-{
-    if 65535 < user {
-        return no_wish();
-    }
-    if 65535 < token {
-        return no_wish();
-    }
-    if 65535 < more {
-        return no_wish();
-    }
-    Wish {
-        ok: true,
-        number: number,
-        user: user as u16,
-        token: token as u16,
-        more: more as u16,
-    }
+    Some(Wish {
+        number,
+        user: id_at(s, at, 1001)?,
+        token: id_at(s, at + 2, 1)?,
+        more,
+    })
 }
 
 // TGrq, TIrq, TPrq, TRrq and TTrq: a user and a token.
-fn token_ids(s: &[u8]) -> Wish
+fn token_ids(s: &[u8]) -> Option<Wish>
     requires { length s.now ≡ 5 }
-    ensures { (result.ok ≡ true → Wishes s.now result) × (result.ok ≡ false → NoneRead token_number s.now) }
+    ensures { MatchOption result (NoneRead token_number s.now) (Wishes s.now) }
 {
     let o = s[0];
-    if o % 4 != 0 {
-        return no_wish();
-    }
-    let number = o / 4;
-    match number {
-        29 | 31 | 37 | 39 | 41 => wished(number as u32, id_at(s, 1, 1001), id_at(s, 3, 1), 0),
-        _ => no_wish(),
+    match o {
+        TGRQ | TIRQ | TPRQ | TRRQ | TTRQ => wish_at(s, 1, wide(o) / 4, 0),
+        _ => None,
     }
 }
 
-// TVrq.
-fn token_offer(s: &[u8]) -> Wish
+// TVrq: a user, a token and the recipient.
+fn token_offer(s: &[u8]) -> Option<Wish>
     requires { length s.now ≡ 7 }
-    ensures { (result.ok ≡ true → Wishes s.now result) × (result.ok ≡ false → NoneRead token_number s.now) }
+    ensures { MatchOption result (NoneRead token_number s.now) (Wishes s.now) }
 {
-    if s[0] != 0x84 {
-        return no_wish();
+    if s[0] != TVRQ {
+        return None;
     }
-    wished(33, id_at(s, 1, 1001), id_at(s, 3, 1), id_at(s, 5, 1001))
+    let recipient = id_at(s, 5, 1001)?;
+    wish_at(s, 1, 33, recipient)
 }
 
 // TVrs: its result lies in the last 2 bits of the first octet and the first 2 of the next.
-fn token_answer(s: &[u8]) -> Wish
+fn token_answer(s: &[u8]) -> Option<Wish>
     requires { length s.now ≡ 6 }
-    ensures { (result.ok ≡ true → Wishes s.now result) × (result.ok ≡ false → NoneRead token_number s.now) }
+    ensures { MatchOption result (NoneRead token_number s.now) (Wishes s.now) }
 {
     let o = wide(s[0]);
     let p = wide(s[1]);
-    if o / 4 != 35 {
-        return no_wish();
+    if o / 4 != TVRS {
+        return None;
     }
     if p % 64 != 0 {
-        return no_wish();
+        return None;
     }
-    wished(35, id_at(s, 2, 1001), id_at(s, 4, 1), o % 4 * 4 + p / 64)
+    wish_at(s, 2, TVRS, (o % 4 * 4 + p / 64) as u16)
 }
 
 // The request of these octets, where it is one of those above.
-pub fn read_token(s: &[u8]) -> Wish
-    ensures { (result.ok ≡ true → Wishes s.now result) × (result.ok ≡ false → NoneRead token_number s.now) }
+pub fn read_token(s: &[u8]) -> Option<Wish>
+    ensures { MatchOption result (NoneRead token_number s.now) (Wishes s.now) }
 {
-    let n = s.len();
-    if n < 5 {
-        return no_wish();
+    if s.len() < 5 {
+        return None;
     }
-    let o = s[0];
-    if o < 0x74 {
-        return no_wish();
+    if s[0] < TGRQ {
+        return None;
     }
-    if n == 5 {
-        return token_ids(s);
+    match s.len() {
+        5 => token_ids(s),
+        7 => token_offer(s),
+        6 => token_answer(s),
+        _ => None,
     }
-    if n == 7 {
-        return token_offer(s);
-    }
-    if n == 6 {
-        return token_answer(s);
-    }
-    no_wish()
 }

@@ -159,8 +159,7 @@ pub fn message(
             sent: 0,
         };
     }
-    let w = codec_read_fast::tokens::read_token(octets);
-    if w.ok {
+    if let Some(w) = codec_read_fast::tokens::read_token(octets) {
         return serve_tokens::request(
             limits,
             user_ids,
@@ -176,8 +175,7 @@ pub fn message(
             out,
         );
     }
-    let q = codec_read_fast::read_short(octets);
-    if q.ok {
+    if let Some(q) = codec_read_fast::read_short(octets) {
         return serve_dispatch::brief_request(
             limits,
             user_ids,

@@ -24,8 +24,7 @@ pub struct Understood {
 pub fn understand(octets: &[u8], listed: &mut [u16; 64]) -> Understood
     ensures { NoneRead few_ids octets.now → Understands octets.now result listed.new }
 {
-    let l = codec_read_fast::lists::read_listing(octets, listed);
-    if l.ok {
+    if let Some(l) = codec_read_fast::lists::read_listing(octets, listed) {
         return done(l.number, l.first, l.second, l.count);
     }
     understand_all(octets, listed)

@@ -2,6 +2,8 @@
 // What a function does not read or write goes by the next.
 #![tactic(auto)]
 
+use codec_read_fast::tokens::TVRS;
+
 // The number of a message that no short way has read.
 const NOT_READ: u32 = 64;
 
@@ -13,25 +15,22 @@ pub extern "C" fn ladlestorm_test_read_fast(
     values: &mut [u16; 3],
     list: &mut [u16; 64],
 ) -> u32 {
-    let w = codec_read_fast::tokens::read_token(s);
-    if w.ok {
-        *values = in_order(w.number == 35, w.user, w.token, w.more);
+    if let Some(w) = codec_read_fast::tokens::read_token(s) {
+        *values = in_order(w.number == TVRS, w.user, w.token, w.more);
         return w.number;
     }
-    let q = codec_read_fast::read_short(s);
-    if q.ok {
+    if let Some(q) = codec_read_fast::read_short(s) {
         *values = [q.first, q.second, 0];
         return q.number;
     }
-    let l = codec_read_fast::lists::read_listing(s, list);
-    if l.ok {
+    if let Some(l) = codec_read_fast::lists::read_listing(s, list) {
         *values = [l.first, l.second, (l.count % 65536) as u16];
         return l.number;
     }
     NOT_READ
 }
 
-// The values of a request about a token in the message's order: a TVrs, 35, has its result first.
+// The values of a request about a token in the message's order: a TVrs has its result first.
 fn in_order(result_first: bool, user: u16, token: u16, more: u16) -> [u16; 3] {
     if result_first {
         return [more, user, token];

@@ -3,10 +3,10 @@ use borrow.Author.Tests.{ne_eqb}
 use Rattle.codec_read_fast.specs.Shortly.{in_words}
 use Rattle.codec_read_fast.proofs.in_words.Goals as goal
 
-pub returns-then-w-eq35 : goal.returns-then-w-eq35
+pub returns-then-w-eq-TVRS : goal.returns-then-w-eq-TVRS
 unfolding in_words
-returns-then-w-eq35 c = c.of_values.ensures ∙ rw c.if-w-eq35.true refl
+returns-then-w-eq-TVRS c = c.of_values.ensures ∙ rw c.if-w-eq-TVRS.true refl
 
 pub returns : goal.returns
 unfolding in_words
-returns c = c.of_values-2.ensures ∙ rw (ne_eqb _ 35 c.if-w-eq35.false) refl
+returns c = c.of_values-2.ensures ∙ rw (ne_eqb _ 35 c.if-w-eq-TVRS.false) refl

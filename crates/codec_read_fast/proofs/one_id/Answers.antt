@@ -1,23 +1,18 @@
-use mathlib.Core.Path.{refl, sym}
+use mathlib.Core.Path.{refl}
 use native.Mathlib.Omega.{arith}
 use Rattle.codec_table.specs.Messages.{row, entry, is_served}
 use Rattle.codec_table.specs.Columns.{count_at, tail_at, packed_at, packed}
 use Rattle.codec_read_fast.specs.Shortly.{short_number}
 use Rattle.codec_read_fast.proofs.ShortLaws.{none_left, id_before, shortly}
-use Rattle.codec_read_fast.proofs.Shapes.{declined, no_short}
-use borrow.Author.Rules.{rules}
+use Rattle.codec_read_fast.proofs.Shapes.{no_short}
 use Rattle.codec_read_fast.proofs.one_id.Goals as goal
 
-pub returns-then-s-ne68 : goal.returns-then-s-ne68
-returns-then-s-ne68 c = declined c.not_short.ensures (no_short c.shared_slice_known-1.given (omega arith))
+pub returns-then-s-ne-CCRQ : goal.returns-then-s-ne-CCRQ
+returns-then-s-ne-CCRQ c = no_short c.type_inv.s (omega arith)
+
+pub returns-in_err-id_at : goal.returns-in_err-id_at
+returns-in_err-id_at c = rw c.from_residual.ensures (no_short c.type_inv.s (omega (arith, c.in_err-id_at.ensures)))
 
 pub returns : goal.returns
 unfolding row entry is_served count_at tail_at packed_at packed short_number
-returns c =
-    let s = c.args.s.now in
-    let user = c.id_at.ensures in (
-      λ k.
-          let m = c.made.ensures.0 k in
-          shortly s 0x44 (sym c.if-s-ne68.false) (search rules) (search rules) (search rules) 0 refl _ _ (id_before user m.first (none_left (search rules))) refl _ m.is refl,
-      λ k. no_short c.shared_slice_known-1.given (omega (arith, user, c.made.ensures.1 k)),
-    )
+returns c = shortly c.args.s.now 0x44 0 (omega arith) _ _ (id_before c.in_ok-id_at.ensures (none_left (omega arith))) refl refl

@@ -1,27 +1,22 @@
+use mathlib.Core.Path.{refl}
 use mathlib.Core.Bool.{false}
-use mathlib.Core.Path.{refl, sym}
 use native.Mathlib.Omega.{arith}
 use Rattle.codec_table.specs.Messages.{row, entry, is_served}
 use Rattle.codec_table.specs.Columns.{count_at, tail_at, packed_at, packed}
 use Rattle.codec_read_fast.specs.Shortly.{token_number}
-use Rattle.codec_read_fast.proofs.ShortLaws.{none_left, id_before, wishes}
-use Rattle.codec_read_fast.proofs.Shapes.{declined, no_token}
-use borrow.Author.Rules.{rules}
+use Rattle.codec_read_fast.proofs.ShortLaws.{wish_read, none_left, id_before, wishes}
+use Rattle.codec_read_fast.proofs.Shapes.{no_token}
 use Rattle.codec_read_fast.proofs.tokens.token_offer.Goals as goal
 
 pub returns-then-s : goal.returns-then-s
-returns-then-s c = declined c.no_wish.ensures (no_token c.shared_slice_known-1.given (omega arith))
+returns-then-s c = no_token c.type_inv.s (omega arith)
+
+pub returns-in_err-recipient : goal.returns-in_err-recipient
+returns-in_err-recipient c = rw c.from_residual.ensures (no_token c.type_inv.s (omega (arith, c.in_err-recipient.ensures)))
 
 pub returns : goal.returns
 unfolding row entry is_served count_at tail_at packed_at packed token_number
 returns c =
-    let s = c.args.s.now in
-    let user = c.id_at.ensures in
-    let token = c.id_at-2.ensures in
-    let recipient = c.id_at-3.ensures in (
-      λ k.
-          let m = c.wished.ensures.0 k in
-          wishes s 0x84 (sym c.if-s.false) (search rules) (search rules) (search rules) 0 refl _ _
-          (id_before user m.user_fits (id_before token m.token_fits (id_before recipient m.more_fits (none_left (search rules))))) false refl _ m.is refl,
-      λ k. no_token c.shared_slice_known-1.given (omega (arith, user, token, recipient, c.wished.ensures.1 k)),
-    )
+    wish_read c.args.s.now 1 33 _ _ c.wish_at.ensures (λ h. no_token c.type_inv.s (omega (arith, h))) λ w h.
+    wishes c.args.s.now 0x84 0 (omega arith) _ _
+    (id_before h.user (id_before h.token (id_before c.in_ok-recipient.ensures (none_left (omega arith))))) false refl h.is refl
