@@ -1,52 +1,42 @@
-// A request on an open connection, by its number: on lent columns, with any contents. Those about tokens are in `serve_tokens`.
+// A request on an open connection, by its number, on a domain with any contents. Those about tokens are in `serve_tokens`.
 #![tactic(auto)]
 
-ghost use Rattle.std.specs.Prelude.{◌≡◌, ℕ, take};
-ghost use Rattle.domain.specs.declared.Limits.{Limits as LimitsOf};
-ghost use Rattle.domain.specs.Tables.{Tokens, grant};
-ghost use Rattle.domain.specs.Lent.{channels_after, channels_before, domain_after, domain_before, users_after, users_before};
+ghost use Rattle.std.specs.Prelude.{◌≡◌, take};
+ghost use Rattle.domain.specs.Tables.{grant};
 ghost use Rattle.domain.specs.Effects.{answered, settle};
 ghost use Rattle.domain.specs.Events.{act};
-ghost use Rattle.domain.specs.Assembled.{assembled};
+ghost use Rattle.domain_tables.specs.Held.{domain_in};
 ghost use Rattle.serve_read.specs.Requests.{brief_request, listed_request};
 
-use domain::Limits;
 use domain::answer::Answer;
 use domain::numbers::Reply;
+use domain_tables::Domain;
 
 // The requests of a few ids that are not about tokens: AUrq, CJrq, CCrq, CDrq.
 pub fn brief_request(
-    limits: Limits,
-    user_ids: &mut [u16; 64],
-    user_links: &mut [u8; 64],
-    channel_ids: &mut [u16; 128],
-    channel_kinds: &mut [u8; 128],
-    managers: &mut [u8; 128],
-    admitted: &mut [u64; 128],
-    joined: &mut [u16; 128],
+    d: &mut Domain,
     p: u8,
     number: u32,
     first: u16,
     second: u16,
     out: &mut [u8],
 ) -> Answer
-    ensures { (m : ℕ) (ts : Tokens) →
-        let d = assembled limits m (users_before user_ids user_links) (channels_before channel_ids channel_kinds managers admitted joined) ts in
-        answered result (assembled limits m (users_after user_ids user_links) (channels_after channel_ids channel_kinds managers admitted joined) ts) out.new
-        ≡ settle d (act (grant d.channels) d p (brief_request number first second)) out.old }
+    ensures { answered result (domain_in d.new) out.new
+        ≡ settle (domain_in d.old) (act (grant (domain_in d.old).channels) (domain_in d.old) p (brief_request number first second)) out.old }
 {
+    let limits = d.limits;
     match number {
         10 => {
             let users = limits.users;
             let most = limits.channels;
             serve_channels::attach(
-                user_ids,
-                user_links,
-                channel_ids,
-                channel_kinds,
-                managers,
-                admitted,
-                joined,
+                &mut d.users.ids,
+                &mut d.users.links,
+                &mut d.channels.ids,
+                &mut d.channels.kinds,
+                &mut d.channels.managers,
+                &mut d.members.admitted,
+                &mut d.members.joined,
                 users,
                 most,
                 p,
@@ -56,13 +46,13 @@ pub fn brief_request(
         14 => {
             let most = limits.channels;
             serve_channels::join(
-                user_ids,
-                user_links,
-                channel_ids,
-                channel_kinds,
-                managers,
-                admitted,
-                joined,
+                &mut d.users.ids,
+                &mut d.users.links,
+                &mut d.channels.ids,
+                &mut d.channels.kinds,
+                &mut d.channels.managers,
+                &mut d.members.admitted,
+                &mut d.members.joined,
                 most,
                 p,
                 first,
@@ -73,13 +63,13 @@ pub fn brief_request(
         17 => {
             let most = limits.channels;
             serve_private::convene(
-                user_ids,
-                user_links,
-                channel_ids,
-                channel_kinds,
-                managers,
-                admitted,
-                joined,
+                &mut d.users.ids,
+                &mut d.users.links,
+                &mut d.channels.ids,
+                &mut d.channels.kinds,
+                &mut d.channels.managers,
+                &mut d.members.admitted,
+                &mut d.members.joined,
                 most,
                 p,
                 first,
@@ -87,13 +77,13 @@ pub fn brief_request(
             )
         }
         _ => serve_private::disband(
-            user_ids,
-            user_links,
-            channel_ids,
-            channel_kinds,
-            managers,
-            admitted,
-            joined,
+            &mut d.users.ids,
+            &mut d.users.links,
+            &mut d.channels.ids,
+            &mut d.channels.kinds,
+            &mut d.channels.managers,
+            &mut d.members.admitted,
+            &mut d.members.joined,
             p,
             first,
             second,
@@ -104,17 +94,7 @@ pub fn brief_request(
 
 // The requests with a list of ids, and EDrq, DPum and RJum. All but DUrq that leave close; the list lent is worked in.
 pub fn listed_request(
-    links: &mut u16,
-    user_ids: &mut [u16; 64],
-    user_links: &mut [u8; 64],
-    channel_ids: &mut [u16; 128],
-    channel_kinds: &mut [u8; 128],
-    managers: &mut [u8; 128],
-    admitted: &mut [u64; 128],
-    joined: &mut [u16; 128],
-    token_ids: &mut [u16; 64],
-    token_states: &mut [u8; 64],
-    token_values: &mut [u64; 64],
+    d: &mut Domain,
     p: u8,
     number: u32,
     first: u16,
@@ -123,10 +103,8 @@ pub fn listed_request(
     count: usize,
     out: &mut [u8],
 ) -> Answer
-    ensures { (l : LimitsOf) →
-        let d = domain_before l links user_ids user_links channel_ids channel_kinds managers admitted joined token_ids token_states token_values in
-        answered result (domain_after l links user_ids user_links channel_ids channel_kinds managers admitted joined token_ids token_states token_values) out.new
-        ≡ settle d (act (grant d.channels) d p (listed_request number first second (take count listed.old))) out.old }
+    ensures { answered result (domain_in d.new) out.new
+        ≡ settle (domain_in d.old) (act (grant (domain_in d.old).channels) (domain_in d.old) p (listed_request number first second (take count listed.old))) out.old }
 {
     match number {
         1 => Answer {
@@ -134,11 +112,11 @@ pub fn listed_request(
             sent: 0,
         },
         16 => serve_channels::leave_channels(
-            channel_ids,
-            channel_kinds,
-            managers,
-            admitted,
-            joined,
+            &mut d.channels.ids,
+            &mut d.channels.kinds,
+            &mut d.channels.managers,
+            &mut d.members.admitted,
+            &mut d.members.joined,
             p,
             listed,
             count,
@@ -147,13 +125,13 @@ pub fn listed_request(
         21 | 23 => {
             let admits = number == 21;
             serve_private::revise(
-                user_ids,
-                user_links,
-                channel_ids,
-                channel_kinds,
-                managers,
-                admitted,
-                joined,
+                &mut d.users.ids,
+                &mut d.users.links,
+                &mut d.channels.ids,
+                &mut d.channels.kinds,
+                &mut d.channels.managers,
+                &mut d.members.admitted,
+                &mut d.members.joined,
                 p,
                 admits,
                 first,
@@ -167,17 +145,17 @@ pub fn listed_request(
             let closes = number != 12;
             let reason = (first % 8) as u8;
             serve_leave::depart(
-                links,
-                user_ids,
-                user_links,
-                channel_ids,
-                channel_kinds,
-                managers,
-                admitted,
-                joined,
-                token_ids,
-                token_states,
-                token_values,
+                &mut d.links,
+                &mut d.users.ids,
+                &mut d.users.links,
+                &mut d.channels.ids,
+                &mut d.channels.kinds,
+                &mut d.channels.managers,
+                &mut d.members.admitted,
+                &mut d.members.joined,
+                &mut d.tokens.ids,
+                &mut d.tokens.states,
+                &mut d.tokens.values,
                 closes,
                 p,
                 reason,

@@ -8,11 +8,12 @@ use native.Mathlib.Omega.{arith}
 use borrow.Author.Tests.{ne_eqb}
 use lib.Dec.{eqb}
 use lib.ListN.{take}
-use Rattle.domain.specs.Tables.{Domain, put_channels, channels_of, domain_of, grant}
+use Rattle.domain.specs.Tables.{Domain, put_channels, grant}
 use Rattle.domain.specs.Leaving.{detach, close}
 use Rattle.domain.specs.Channels.{admit, expel}
 use Rattle.domain.specs.Effects.{settle, within}
 use Rattle.domain.specs.Events.{act}
+use Rattle.domain_tables.specs.Held.{domain_in}
 use Rattle.domain.proofs.Effects.{delivers_none}
 use Rattle.domain.proofs.Requesting.{on_channels}
 use Rattle.serve_read.specs.Requests.{listed_request}
@@ -42,29 +43,29 @@ leaves new d p n a b ids e1 e16 e21 e23 = go (eqb n 12) refl
 -- src/lib.rt:108:1
 pub returns-in-1 : goal.returns-in-1
 unfolding listed_request act settle
-returns-in-1 c = λ l. rw c.in-1.is (delivers_none 0 _ _ _)
+returns-in-1 c = rw c.in-1.is (delivers_none 0 _ _ _)
 
 -- src/lib.rt:108:1
 pub returns-in-16 : goal.returns-in-16
 unfolding listed_request act
-returns-in-16 c = λ l.
+returns-in-16 c =
     let a = c.args in
-    on_channels l _ _ _ _ _ a.p (listed_request a.number a.first a.second (take a.count a.listed.now)) _ _ c.leave_channels.ensures
+    on_channels _ _ _ _ _ _ a.p (listed_request a.number a.first a.second (take a.count a.listed.now)) _ _ c.leave_channels.ensures
     (rw c.in-16.is refl)
 
 -- src/lib.rt:108:1
 pub returns-in-21 : goal.returns-in-21
-returns-in-21 c = λ l.
+returns-in-21 c =
     let a = c.args in
-    on_channels l _ _ _ _ _ a.p (listed_request a.number a.first a.second (take a.count a.listed.now)) _ _ c.revise.ensures
+    on_channels _ _ _ _ _ _ a.p (listed_request a.number a.first a.second (take a.count a.listed.now)) _ _ c.revise.ensures
     (revises _ _ a.p a.number a.first a.second (take a.count a.listed.now) c.in-21.is)
 
 -- src/lib.rt:108:1
 pub returns-in_default : goal.returns-in_default
-returns-in_default c = λ l.
+returns-in_default c =
     let a = c.args in
     let r = c.in_default.in_default-own.rest in
-    rw (leaves (grant (channels_of a.channel_ids.now a.channel_kinds.now a.managers.now a.admitted.now a.joined.now))
-    (domain_of l a.links.now a.user_ids.now a.user_links.now a.channel_ids.now a.channel_kinds.now a.managers.now a.admitted.now a.joined.now a.token_ids.now a.token_states.now a.token_values.now)
+    rw (leaves (grant (domain_in a.d.now).channels)
+    (domain_in a.d.now)
     a.p a.number a.first a.second (take a.count a.listed.now) r.0.0.1 r.0.1 (λ e. r.1 (inl e)) (λ e. r.1 (inr e)))
-    (c.depart.ensures l)
+    (c.depart.ensures _)
