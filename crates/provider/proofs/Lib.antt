@@ -1,4 +1,3 @@
--- Replies, the room that they take, and the long way of an event.
+-- Replies, and the room that they take.
 pub mod Replies
 pub mod Room
-pub mod LongWay

@@ -3,131 +3,80 @@
 
 ghost use Rattle.std.specs.Prelude.{◌≡◌, List, ℕ};
 ghost use Rattle.domain.specs.Numbers.{reply_number};
-ghost use Rattle.domain.specs.Tables.{Domain, put_links, between, in_range};
-ghost use Rattle.domain.specs.Lent.{channels_now, domain_after, domain_before};
+ghost use Rattle.domain.specs.Tables.{Domain as Tables, between, in_range};
 ghost use Rattle.domain.specs.Effects.{settled};
 ghost use Rattle.domain.specs.Events.{opens};
 ghost use Rattle.domain.specs.Outcomes.{limited, begun, after, audience as audience_of};
+ghost use Rattle.domain_tables.specs.Held.{domain_in};
 ghost use Rattle.cols_spec.specs.Places.{used};
 
-use cols_masks::Mask;
 use domain::Limits;
 use domain::numbers::Reply;
+use domain_tables::Domain;
 
-#[derive(Clone, Copy)]
-pub struct Started {
-    pub reply: Reply,
-    pub limits: Limits,
-}
-
-// The limits are taken, and every column cleared; a limit out of range leaves them all.
-pub fn start(
-    channels: u32,
-    users: u32,
-    tokens: u32,
-    links: &mut u16,
-    user_ids: &mut [u16; 64],
-    user_links: &mut [u8; 64],
-    channel_ids: &mut [u16; 128],
-    channel_kinds: &mut [u8; 128],
-    managers: &mut [u8; 128],
-    admitted: &mut [u64; 128],
-    joined: &mut [u16; 128],
-    token_ids: &mut [u16; 64],
-    token_states: &mut [u8; 64],
-    token_values: &mut [u64; 64],
-) -> Started
-    ensures { ◌≡◌ {A = ℕ × Domain} (
-      reply_number result.reply,
-      domain_after result.limits links user_ids user_links channel_ids channel_kinds managers admitted joined token_ids token_states token_values,
-    )
-        (begun channels users tokens (domain_before (limited 0 0 0) links user_ids user_links channel_ids channel_kinds managers admitted joined token_ids token_states token_values)) }
+// A domain with these limits, and nothing in it; a limit out of range leaves the domain as it is.
+pub fn start(d: &mut Domain, channels: u32, users: u32, tokens: u32) -> Reply
+    ensures { ◌≡◌ {A = ℕ × Tables} (reply_number result, domain_in d.new) (begun channels users tokens (domain_in d.old)) }
 {
     if !in_range(channels, users, tokens) {
-        return Started {
-            reply: Reply::BadLimit,
-            limits: Limits {
-                channels: 0,
-                users: 0,
-                tokens: 0,
-            },
-        };
+        return Reply::BadLimit;
     }
-    *links = 0;
-    *user_ids = [0u16; 64];
-    *user_links = [0u8; 64];
-    *channel_ids = [0u16; 128];
-    *channel_kinds = [0u8; 128];
-    *managers = [0u8; 128];
-    *admitted = [0u64; 128];
-    *joined = [0u16; 128];
-    *token_ids = [0u16; 64];
-    *token_states = [0u8; 64];
-    *token_values = [0u64; 64];
-    Started {
-        reply: Reply::Done,
-        limits: Limits {
-            channels: channels as u8,
-            users: users as u8,
-            tokens: tokens as u8,
-        },
-    }
+    d.limits = Limits {
+        channels: channels as u8,
+        users: users as u8,
+        tokens: tokens as u8,
+    };
+    d.links = 0;
+    d.users.ids = [0u16; 64];
+    d.users.links = [0u8; 64];
+    d.channels.ids = [0u16; 128];
+    d.channels.kinds = [0u8; 128];
+    d.channels.managers = [0u8; 128];
+    d.members.admitted = [0u64; 128];
+    d.members.joined = [0u16; 128];
+    d.tokens.ids = [0u16; 64];
+    d.tokens.states = [0u8; 64];
+    d.tokens.values = [0u64; 64];
+    Reply::Done
 }
 
+#[tactic(auto, unfolding(domain::specs::Tables::in_range))]
 fn in_range(channels: u32, users: u32, tokens: u32) -> bool
     ensures { result ≡ in_range (limited channels users tokens) }
 {
-    if !up_to(128, channels) {
-        return false;
-    }
-    if !up_to(64, users) {
-        return false;
-    }
-    up_to(64, tokens)
+    up_to(128, channels) && up_to(64, users) && up_to(64, tokens)
 }
 
+#[tactic(auto, unfolding(domain::specs::Tables::between))]
 fn up_to(most: u32, n: u32) -> bool
     ensures { result ≡ between 1 most n }
 {
-    if n < 1 {
-        return false;
-    }
-    n <= most
+    (1..=most).contains(&n)
 }
 
 // Connection p opens. Nothing is sent, whatever the room.
-pub fn open(links: &mut u16, p: u8) -> Reply
-    ensures { (d : Domain) (out : List ℕ) → settled (reply_number result) 0 (put_links d links.new) out ≡ after (put_links d links.old) (opens p) out }
+pub fn open(d: &mut Domain, p: u8) -> Reply
+    ensures { (out : List ℕ) → settled (reply_number result) 0 (domain_in d.new) out ≡ after (domain_in d.old) (opens p) out }
 {
-    let before = *links;
+    let before = d.links;
     if 15 < p {
         return Reply::NotOpen;
     }
     if cols_masks::has(before as u64, p) {
         return Reply::OpenAlready;
     }
-    *links = before.with(p);
+    d.links = cols_masks::with_link(before, p);
     Reply::Done
 }
 
 // A channel's audience: the number of connections joined, 0 if it is not in use.
-pub fn audience(
-    channel_ids: &[u16; 128],
-    channel_kinds: &[u8; 128],
-    managers: &[u8; 128],
-    admitted: &[u64; 128],
-    joined: &[u16; 128],
-    c: u16,
-) -> u32
-    ensures { result ≡ audience_of (channels_now channel_ids channel_kinds managers admitted joined) c }
+pub fn audience(d: &Domain, c: u16) -> u32
+    ensures { result ≡ audience_of (domain_in d.now).channels c }
 {
-    let j = cols_find::find(channel_ids, c);
-    let rs = &channel_kinds[..];
-    if j < rs.len() {
-        let ch = domain_tables::channels::channel_at(channel_kinds, managers, admitted, joined, j);
-        return cols_masks::count_links(ch.marks);
+    match d.channels.find(c) {
+        Some(j) => cols_masks::count_links(d.channels.at(&d.members, j).marks),
+        None => 0,
     }
-    0
 }
 
 // Users, channels and tokens in use, by the column of their ids.

@@ -23,12 +23,12 @@ pub returns-in-Some-read_short : goal.returns-in-Some-read_short
 returns-in-Some-read_short c =
     let a = c.args in
     let os = a.octets.now in
-    c.brief_request.ensures _ _
+    c.brief_request.ensures
     ∙ open_served _ a.p _ _ c.is_open.ensures c.if-not-is_open.false (understood os) _
     (short_asks os (bytes_at os (λ i. omega (arith, c.type_inv.octets i))) c.in-Some-read_short.q c.in-Some-read_short.ensures (search rules) (search rules) _ _ _ _)
 
-pub long_event-requires : goal.long_event-requires
-long_event-requires c = (sym c.is_open.ensures ∙ c.if-not-is_open.false, λ e. none_read _ c.in_default.ensures c.in_default-read_short.ensures)
+pub long_message-requires-clause-in_use : goal.long_message-requires-clause-in_use
+long_message-requires-clause-in_use c = sym c.is_open.ensures ∙ c.if-not-is_open.false
 
-pub returns : goal.returns
-returns c = c.long_event.ensures _
+pub long_message-requires-clause-not_brief : goal.long_message-requires-clause-not_brief
+long_message-requires-clause-not_brief c = none_read _ c.in_default.ensures c.in_default-read_short.ensures

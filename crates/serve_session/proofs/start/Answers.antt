@@ -9,14 +9,14 @@ pub returns-then-not-in_range : goal.returns-then-not-in_range
 unfolding begun
 returns-then-not-in_range c = rw (sym c.in_range.ensures ∙ c.if-not-in_range.true) refl
 
-pub overflow_cast-result : goal.overflow_cast-result
-overflow_cast-result c = let m = in_range_most _ _ _ _ c.in_range.ensures c.if-not-in_range.false in omega arith
+pub overflow_cast-d : goal.overflow_cast-d
+overflow_cast-d c = let m = in_range_most _ _ _ _ c.in_range.ensures c.if-not-in_range.false in omega arith
 
-pub overflow_cast-result-2 : goal.overflow_cast-result-2
-overflow_cast-result-2 c = let m = in_range_most _ _ _ _ c.in_range.ensures c.if-not-in_range.false in omega arith
+pub overflow_cast-d-2 : goal.overflow_cast-d-2
+overflow_cast-d-2 c = let m = in_range_most _ _ _ _ c.in_range.ensures c.if-not-in_range.false in omega arith
 
-pub overflow_cast-result-3 : goal.overflow_cast-result-3
-overflow_cast-result-3 c = let m = in_range_most _ _ _ _ c.in_range.ensures c.if-not-in_range.false in omega arith
+pub overflow_cast-d-3 : goal.overflow_cast-d-3
+overflow_cast-d-3 c = let m = in_range_most _ _ _ _ c.in_range.ensures c.if-not-in_range.false in omega arith
 
 pub returns : goal.returns
 unfolding begun fresh channel_cells token_cells
