@@ -4,3 +4,4 @@ pub mod TokenLaws
 pub mod Marking
 pub mod ChannelSweeps
 pub mod OneMore
+pub mod OneStruct

@@ -3,7 +3,7 @@
 
 ghost use Rattle.std.specs.Prelude.{◌≡◌, List, ℕ};
 ghost use Rattle.domain.specs.Numbers.{reply_number};
-ghost use Rattle.domain.specs.Tables.{Domain as Tables, between, in_range};
+ghost use Rattle.domain.specs.Tables.{Domain as Tables, put_links, between, in_range};
 ghost use Rattle.domain.specs.Effects.{settled};
 ghost use Rattle.domain.specs.Events.{opens};
 ghost use Rattle.domain.specs.Outcomes.{limited, begun, after, audience as audience_of};
@@ -55,17 +55,17 @@ fn up_to(most: u32, n: u32) -> bool
 }
 
 // Connection p opens. Nothing is sent, whatever the room.
-pub fn open(d: &mut Domain, p: u8) -> Reply
-    ensures { (out : List ℕ) → settled (reply_number result) 0 (domain_in d.new) out ≡ after (domain_in d.old) (opens p) out }
+pub fn open(links: &mut u16, p: u8) -> Reply
+    ensures { (d : Tables) (out : List ℕ) → settled (reply_number result) 0 (put_links d links.new) out ≡ after (put_links d links.old) (opens p) out }
 {
-    let before = d.links;
+    let before = *links;
     if 15 < p {
         return Reply::NotOpen;
     }
     if cols_masks::has(before as u64, p) {
         return Reply::OpenAlready;
     }
-    d.links = cols_masks::with_link(before, p);
+    *links = cols_masks::with_link(before, p);
     Reply::Done
 }
 
