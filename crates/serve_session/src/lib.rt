@@ -10,6 +10,7 @@ ghost use Rattle.domain.specs.Outcomes.{limited, begun, after, audience as audie
 ghost use Rattle.domain_tables.specs.Held.{domain_in};
 ghost use Rattle.cols_spec.specs.Places.{used};
 
+use cols_masks::Mask;
 use domain::Limits;
 use domain::numbers::Reply;
 use domain_tables::Domain;
@@ -65,7 +66,7 @@ pub fn open(links: &mut u16, p: u8) -> Reply
     if cols_masks::has(before as u64, p) {
         return Reply::OpenAlready;
     }
-    *links = cols_masks::with_link(before, p);
+    *links = before.with(p);
     Reply::Done
 }
 

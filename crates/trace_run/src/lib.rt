@@ -6,6 +6,7 @@ ghost use Rattle.std.specs.Prelude.{◌≤◌, length};
 use domain::Limits;
 use domain::answer::Answer;
 use domain::numbers::Reply;
+use domain_tables::{Channels, Domain, Members, Tokens, Users};
 use std::io::Read;
 use trace_frames::{Frame, Kind};
 use trace_io::input::Span;
@@ -43,18 +44,7 @@ struct Taken {
 
 // An event of this kind on a connection.
 fn event(
-    limits: Limits,
-    links: &mut u16,
-    user_ids: &mut [u16; 64],
-    user_links: &mut [u8; 64],
-    channel_ids: &mut [u16; 128],
-    channel_kinds: &mut [u8; 128],
-    managers: &mut [u8; 128],
-    admitted: &mut [u64; 128],
-    joined: &mut [u16; 128],
-    token_ids: &mut [u16; 64],
-    token_states: &mut [u8; 64],
-    token_values: &mut [u64; 64],
+    d: &mut Domain,
     kind: Kind,
     connection: u8,
     message: &[u8],
@@ -62,61 +52,16 @@ fn event(
 ) -> Answer {
     match kind {
         Kind::Open => Answer {
-            reply: serve_session::open(links, connection),
+            reply: serve_session::open(&mut d.links, connection),
             sent: 0,
         },
-        Kind::Loss => provider::lose(
-            links,
-            user_ids,
-            user_links,
-            channel_ids,
-            channel_kinds,
-            managers,
-            admitted,
-            joined,
-            token_ids,
-            token_states,
-            token_values,
-            connection,
-            room,
-        ),
-        Kind::Message => provider::message(
-            limits,
-            links,
-            user_ids,
-            user_links,
-            channel_ids,
-            channel_kinds,
-            managers,
-            admitted,
-            joined,
-            token_ids,
-            token_states,
-            token_values,
-            connection,
-            message,
-            room,
-        ),
+        Kind::Loss => provider::lose(d, connection, room),
+        Kind::Message => provider::message(d, connection, message, room),
     }
 }
 
 // Takes the frame at the front of s and plays it.
-fn take_frame(
-    s: &[u8],
-    limits: Limits,
-    links: &mut u16,
-    user_ids: &mut [u16; 64],
-    user_links: &mut [u8; 64],
-    channel_ids: &mut [u16; 128],
-    channel_kinds: &mut [u8; 128],
-    managers: &mut [u8; 128],
-    admitted: &mut [u64; 128],
-    joined: &mut [u16; 128],
-    token_ids: &mut [u16; 64],
-    token_states: &mut [u8; 64],
-    token_values: &mut [u64; 64],
-    room: &mut [u8; ROOM],
-) -> Taken
+fn take_frame(s: &[u8], d: &mut Domain, room: &mut [u8; ROOM]) -> Taken
     ensures { result.size ≤ length s.now }
 {
     let found = trace_frames::next_frame(s);
@@ -129,7 +74,7 @@ fn take_frame(
             more: false,
         },
         Frame::Bad => Taken {
-            reply: domain_state::numbers::reply_number(Reply::BadFrame) as u64,
+            reply: u8::from(Reply::BadFrame) as u64,
             sent: 0,
             size: 0,
             line: true,
@@ -141,27 +86,9 @@ fn take_frame(
             start,
             size,
         } => {
-            let a = event(
-                limits,
-                links,
-                user_ids,
-                user_links,
-                channel_ids,
-                channel_kinds,
-                managers,
-                admitted,
-                joined,
-                token_ids,
-                token_states,
-                token_values,
-                kind,
-                connection,
-                &s[start..size],
-                room,
-            );
-            let reply = a.reply;
+            let a = event(d, kind, connection, &s[start..size], room);
             Taken {
-                reply: domain_state::numbers::reply_number(reply) as u64,
+                reply: u8::from(a.reply) as u64,
                 sent: a.sent,
                 size,
                 line: true,
@@ -172,18 +99,13 @@ fn take_frame(
 }
 
 // The line of what was taken: the reply, octets sent, users, channels and tokens in use.
-fn report(
-    taken: Taken,
-    user_ids: &[u16; 64],
-    channel_ids: &[u16; 128],
-    token_ids: &[u16; 64],
-) -> Report {
+fn report(taken: Taken, d: &Domain) -> Report {
     Report {
         reply: taken.reply,
         sent: taken.sent as u64,
-        users: serve_session::in_use(user_ids) as u64,
-        channels: serve_session::in_use(channel_ids) as u64,
-        tokens: serve_session::in_use(token_ids) as u64,
+        users: serve_session::in_use(&d.users.ids) as u64,
+        channels: serve_session::in_use(&d.channels.ids) as u64,
+        tokens: serve_session::in_use(&d.tokens.ids) as u64,
     }
 }
 
@@ -208,13 +130,8 @@ fn show(
     s: &[u8],
     report: Report,
     room: &[u8; ROOM],
-    user_ids: &[u16; 64],
-    token_ids: &[u16; 64],
-    token_states: &[u8; 64],
-    token_values: &[u64; 64],
-    old_token_ids: &mut [u16; 64],
-    old_token_states: &mut [u8; 64],
-    old_token_values: &mut [u64; 64],
+    d: &Domain,
+    old_tokens: &mut Tokens,
 ) -> usize {
     match form {
         Form::Lines => trace_io::lines::add_line(output, filled, report),
@@ -226,37 +143,29 @@ fn show(
             s,
             report,
             room,
-            user_ids,
-            token_ids,
-            token_states,
-            token_values,
-            old_token_ids,
-            old_token_states,
-            old_token_values,
+            &d.users.ids,
+            &d.tokens.ids,
+            &d.tokens.states,
+            &d.tokens.values,
+            &mut old_tokens.ids,
+            &mut old_tokens.states,
+            &mut old_tokens.values,
         ),
     }
 }
 
 // Shows what the run ends with: in words, the table of the tokens.
-fn show_end(
-    output: &mut [u8],
-    filled: usize,
-    form: Form,
-    user_ids: &[u16; 64],
-    token_ids: &[u16; 64],
-    token_states: &[u8; 64],
-    token_values: &[u64; 64],
-) -> usize {
+fn show_end(output: &mut [u8], filled: usize, form: Form, d: &Domain) -> usize {
     match form {
         Form::Lines => filled,
         Form::Sent => filled,
         Form::Words => explain_tokens::put_table(
             output,
             filled,
-            user_ids,
-            token_ids,
-            token_states,
-            token_values,
+            &d.users.ids,
+            &d.tokens.ids,
+            &d.tokens.states,
+            &d.tokens.values,
         ),
     }
 }
@@ -285,21 +194,8 @@ fn step<R: Read>(
     source: &mut R,
     input: &mut [u8],
     output: &mut [u8],
-    limits: Limits,
-    links: &mut u16,
-    user_ids: &mut [u16; 64],
-    user_links: &mut [u8; 64],
-    channel_ids: &mut [u16; 128],
-    channel_kinds: &mut [u8; 128],
-    managers: &mut [u8; 128],
-    admitted: &mut [u64; 128],
-    joined: &mut [u16; 128],
-    token_ids: &mut [u16; 64],
-    token_states: &mut [u8; 64],
-    token_values: &mut [u64; 64],
-    old_token_ids: &mut [u16; 64],
-    old_token_states: &mut [u8; 64],
-    old_token_values: &mut [u64; 64],
+    d: &mut Domain,
+    old_tokens: &mut Tokens,
     room: &mut [u8; ROOM],
     form: Form,
     at: Turn,
@@ -308,22 +204,7 @@ fn step<R: Read>(
     let span = trace_io::input::ready(source, input, have);
     let from = span.from;
     let to = span.to;
-    let taken = take_frame(
-        &input[from..to],
-        limits,
-        links,
-        user_ids,
-        user_links,
-        channel_ids,
-        channel_kinds,
-        managers,
-        admitted,
-        joined,
-        token_ids,
-        token_states,
-        token_values,
-        room,
-    );
+    let taken = take_frame(&input[from..to], d, room);
     let rest = behind(span, taken.size);
     if !taken.line {
         return Turn {
@@ -339,15 +220,10 @@ fn step<R: Read>(
         form,
         at.number,
         &input[from..to],
-        report(taken, user_ids, channel_ids, token_ids),
+        report(taken, d),
         room,
-        user_ids,
-        token_ids,
-        token_states,
-        token_values,
-        old_token_ids,
-        old_token_states,
-        old_token_values,
+        d,
+        old_tokens,
     );
     Turn {
         span: rest,
@@ -362,21 +238,8 @@ fn play<R: Read>(
     source: &mut R,
     input: &mut [u8],
     output: &mut [u8],
-    limits: Limits,
-    links: &mut u16,
-    user_ids: &mut [u16; 64],
-    user_links: &mut [u8; 64],
-    channel_ids: &mut [u16; 128],
-    channel_kinds: &mut [u8; 128],
-    managers: &mut [u8; 128],
-    admitted: &mut [u64; 128],
-    joined: &mut [u16; 128],
-    token_ids: &mut [u16; 64],
-    token_states: &mut [u8; 64],
-    token_values: &mut [u64; 64],
-    old_token_ids: &mut [u16; 64],
-    old_token_states: &mut [u8; 64],
-    old_token_values: &mut [u64; 64],
+    d: &mut Domain,
+    old_tokens: &mut Tokens,
     room: &mut [u8; ROOM],
     form: Form,
 ) {
@@ -388,40 +251,10 @@ fn play<R: Read>(
     };
     let mut turns = u64::MAX;
     while turns > 0 && at.more {
-        at = step(
-            source,
-            input,
-            output,
-            limits,
-            links,
-            user_ids,
-            user_links,
-            channel_ids,
-            channel_kinds,
-            managers,
-            admitted,
-            joined,
-            token_ids,
-            token_states,
-            token_values,
-            old_token_ids,
-            old_token_states,
-            old_token_values,
-            room,
-            form,
-            at,
-        );
+        at = step(source, input, output, d, old_tokens, room, form, at);
         turns -= 1;
     }
-    let filled = show_end(
-        output,
-        at.filled,
-        form,
-        user_ids,
-        token_ids,
-        token_states,
-        token_values,
-    );
+    let filled = show_end(output, at.filled, form, d);
     trace_io::lines::flush(output, filled);
 }
 
@@ -431,56 +264,50 @@ pub fn run<R: Read>(form: Form, source: &mut R) {
     let mut input = [0u8; 131072];
     let mut output = [0u8; 65536];
     let mut room = [0u8; ROOM];
-    let mut links: u16 = 0;
-    let mut user_ids = [0u16; 64];
-    let mut user_links = [0u8; 64];
-    let mut channel_ids = [0u16; 128];
-    let mut channel_kinds = [0u8; 128];
-    let mut managers = [0u8; 128];
-    let mut admitted = [0u64; 128];
-    let mut joined = [0u16; 128];
-    let mut token_ids = [0u16; 64];
-    let mut token_states = [0u8; 64];
-    let mut token_values = [0u64; 64];
-    let mut old_token_ids = [0u16; 64];
-    let mut old_token_states = [0u8; 64];
-    let mut old_token_values = [0u64; 64];
-    let started = serve_session::start(
-        128,
-        64,
-        64,
-        &mut links,
-        &mut user_ids,
-        &mut user_links,
-        &mut channel_ids,
-        &mut channel_kinds,
-        &mut managers,
-        &mut admitted,
-        &mut joined,
-        &mut token_ids,
-        &mut token_states,
-        &mut token_values,
-    );
+    let mut d = empty();
+    let mut old_tokens = no_tokens();
+    serve_session::start(&mut d, 128, 64, 64);
     play(
         source,
         &mut input,
         &mut output,
-        started.limits,
-        &mut links,
-        &mut user_ids,
-        &mut user_links,
-        &mut channel_ids,
-        &mut channel_kinds,
-        &mut managers,
-        &mut admitted,
-        &mut joined,
-        &mut token_ids,
-        &mut token_states,
-        &mut token_values,
-        &mut old_token_ids,
-        &mut old_token_states,
-        &mut old_token_values,
+        &mut d,
+        &mut old_tokens,
         &mut room,
         form,
     );
+}
+
+// A domain before its start.
+fn empty() -> Domain {
+    Domain {
+        limits: Limits {
+            channels: 0,
+            users: 0,
+            tokens: 0,
+        },
+        links: 0,
+        users: Users {
+            ids: [0; 64],
+            links: [0; 64],
+        },
+        channels: Channels {
+            ids: [0; 128],
+            kinds: [0; 128],
+            managers: [0; 128],
+        },
+        members: Members {
+            admitted: [0; 128],
+            joined: [0; 128],
+        },
+        tokens: no_tokens(),
+    }
+}
+
+fn no_tokens() -> Tokens {
+    Tokens {
+        ids: [0; 64],
+        states: [0; 64],
+        values: [0; 64],
+    }
 }

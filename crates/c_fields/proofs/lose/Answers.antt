@@ -1,7 +1,7 @@
--- The provider's own equation at these limits and this connection, and the answer's numbers.
+-- The provider's own equation at this connection, and the answer's numbers.
 use Rattle.std.proofs.Common.{◌∙◌}
 use Rattle.c_fields.proofs.Links.{loses_same}
 use Rattle.c_fields.proofs.lose.Goals as goal
 
 pub returns : goal.returns
-returns c = rw c.numbered.ensures.0 (rw c.numbered.ensures.1 (c.lose-a.ensures _ ∙ loses_same _ _ c.link_of.ensures))
+returns c = rw c.from.ensures.0 (rw c.from.ensures.1 (c.lose-a.ensures ∙ loses_same _ _ c.link_of.ensures))

@@ -9,4 +9,4 @@ pub returns-then-has : goal.returns-then-has
 returns-then-has c = λ d out. opens_again d _ _ out c.if-p-gt15.false (sym c.has.ensures ∙ c.if-has.true)
 
 pub returns : goal.returns
-returns c = λ d out. rw c.with_link.ensures (opens_done d _ _ out c.if-p-gt15.false (sym c.has.ensures ∙ c.if-has.false))
+returns c = λ d out. rw c.with.ensures (opens_done d _ _ out c.if-p-gt15.false (sym c.has.ensures ∙ c.if-has.false))
