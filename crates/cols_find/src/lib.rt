@@ -4,17 +4,11 @@
 ghost use Rattle.std.specs.Prelude.{◌≡◌, ◌+◌, ◌<◌, ◌≤◌, ◌-◌, true, length, get_or, drop, [], ◌∷◌, if◌then◌else◌};
 ghost use Rattle.cols_spec.specs.Places.{first as first_in, find as find_in, spare as spare_in, number, used as used_in};
 
-// A number, where an id stands here; else 0. A choice, and no branch.
-fn if_here(here: bool, n: u16) -> u16
-    ensures { (result ≡ (if here then n else 0)) × (result ≤ n) }
+// A number, where it counts; else 0. A choice, and no branch.
+pub fn if_so(so: bool, n: u16) -> u16
+    ensures { (result ≡ (if so then n else 0)) × (result ≤ n) }
 {
-    if here { n } else { 0 }
-}
-
-fn greater(a: u16, b: u16) -> u16
-    ensures { (a < b → result ≡ b) × (b ≤ a → result ≡ a) }
-{
-    if a < b { b } else { a }
+    if so { n } else { 0 }
 }
 
 // How many of the 64 places from `from` on stand before x; all of them, where none holds it. All are looked at, eight together, and no branch stands
@@ -24,10 +18,8 @@ fn among(ids: &[u16], from: usize, x: u16) -> usize
     ensures { (result ≤ 64) × (first_in from x (drop from ids.now) ≡ first_in (from + result) x (drop (from + result) ids.now)) }
 {
     let mut most: u16 = 0;
-    let mut k: usize = 0;
-    while k < 64 {
-        most = greater(if_here(ids[from + k] == x, (64 - k) as u16), most);
-        k += 1;
+    for k in 0..64 {
+        most = u16::max(if_so(ids[from + k] == x, (64 - k) as u16), most);
     }
     64 - most as usize
 }
@@ -38,10 +30,8 @@ fn alone(ids: &[u16], from: usize, x: u16) -> usize
     ensures { (result ≤ 64) × (first_in from x (drop from ids.now) ≡ first_in (from + result) x (drop (from + result) ids.now)) }
 {
     let mut sum: u16 = 0;
-    let mut k: usize = 0;
-    while k < 64 {
-        sum += if_here(ids[from + k] == x, (256 + k) as u16);
-        k += 1;
+    for k in 0..64 {
+        sum += if_so(ids[from + k] == x, (256 + k) as u16);
     }
     if sum < 256 {
         return 64;
@@ -95,14 +85,13 @@ fn first(ids: &[u16], x: u16, many: bool) -> usize
     if at_start(ids, x) {
         return 0;
     }
-    let mut i = skipped(ids, x, many);
-    while i < ids.len() {
+    let from = skipped(ids, x, many);
+    for i in from..ids.len() {
         if ids[i] == x {
             return i;
         }
-        i += 1;
     }
-    i
+    ids.len()
 }
 
 // The place of an id in use.
@@ -135,10 +124,8 @@ fn used_of(ids: &[u16]) -> u16
     ensures { result ≡ used_in ids.now }
 {
     let mut k: u16 = 0;
-    let mut i = 0;
-    while i < ids.len() {
-        k += in_use(ids[i]);
-        i += 1;
+    for x in ids {
+        k += in_use(*x);
     }
     k
 }

@@ -7,26 +7,16 @@ ghost use Rattle.cols_spec.specs.Places.{first as first_in, busy, InRow, next as
 
 use cols_masks::Mask;
 
-// The two, four, eight places from i on hold x, x + step and so on. No branch stands between them here either.
-fn row_of_two(ids: &[u16], i: usize, x: u16, step: u16) -> bool
-    requires { (i + 2 ≤ length ids.now) × (x + step ≤ 65535) }
-    ensures { result ≡ true → InRow ids.now i 2 x step }
-{
-    (ids[i] == x) & (ids[i + 1] == x + step)
-}
-
-fn row_of_four(ids: &[u16], i: usize, x: u16, step: u16) -> bool
-    requires { (i + 4 ≤ length ids.now) × (x + 3 * step ≤ 65535) }
-    ensures { result ≡ true → InRow ids.now i 4 x step }
-{
-    row_of_two(ids, i, x, step) & row_of_two(ids, i + 2, x + 2 * step, step)
-}
-
+// The eight places from i on hold x, x + step and so on. No branch stands between them here either.
 fn row_of_eight(ids: &[u16], i: usize, x: u16, step: u16) -> bool
     requires { (i + 8 ≤ length ids.now) × (x + 7 * step ≤ 65535) }
     ensures { result ≡ true → InRow ids.now i 8 x step }
 {
-    row_of_four(ids, i, x, step) & row_of_four(ids, i + 4, x + 4 * step, step)
+    let mut all = true;
+    for k in 0..8 {
+        all = all & (ids[i + k] == x + k as u16 * step);
+    }
+    all
 }
 
 // A place before which, from another on, none is in use: free places are passed eight at a time.
@@ -55,14 +45,12 @@ pub fn used_from(ids: &[u16], from: usize) -> usize
     if 0 < ids[from] {
         return from;
     }
-    let mut i = past_free(ids, from);
-    while i < n {
+    for i in past_free(ids, from)..n {
         if 0 < ids[i] {
             return i;
         }
-        i += 1;
     }
-    i
+    n
 }
 
 // How far behind `low` an id stands; those up to `low` come round, behind all others.
@@ -74,12 +62,6 @@ fn behind(low: u16, x: u16) -> u16
     } else {
         x - low - 1
     }
-}
-
-fn lesser(a: u16, b: u16) -> u16
-    ensures { (a < b → result ≡ a) × (b ≤ a → result ≡ b) }
-{
-    if a < b { a } else { b }
 }
 
 // The id that stands so far behind `low`, or 0.
@@ -94,31 +76,19 @@ pub fn next(ids: &[u16], low: u16) -> u16
     ensures { result ≡ next_in low 0 ids.now }
 {
     let mut best: u16 = 65535;
-    let mut i = 0;
-    while i < ids.len() {
-        best = lesser(behind(low, ids[i]), best);
-        i += 1;
+    for x in ids {
+        best = u16::min(behind(low, *x), best);
     }
     ahead(low, best)
-}
-
-// An id that passes, or 0.
-fn only_if(passes: bool, x: u16) -> u16
-    ensures { result ≡ (if passes then x else 0) }
-{
-    if passes { x } else { 0 }
 }
 
 // The least id above `low` of the places whose cell is k, or 0.
 pub fn next_where(ids: &[u16; 64], cells: &[u8; 64], k: u8, low: u16) -> u16
     ensures { result ≡ next_in low 0 (picked (λ j. eqb (get_or cells.now j 0) k) 0 ids.now) }
 {
-    let n = ids[..].len();
     let mut best: u16 = 65535;
-    let mut i = 0;
-    while i < n {
-        best = lesser(behind(low, only_if(cells[i] == k, ids[i])), best);
-        i += 1;
+    for i in 0..64 {
+        best = u16::min(behind(low, cols_find::if_so(cells[i] == k, ids[i])), best);
     }
     ahead(low, best)
 }
@@ -128,41 +98,10 @@ pub fn any_is(cells: &[u8], k: u8) -> bool
     ensures { result ≡ false → (j : ℕ) → j < length cells.now → get_or cells.now j 0 ≡ k → ⊥ }
 {
     let mut any = false;
-    let mut i = 0;
-    while i < cells.len() {
-        any = any | (cells[i] == k);
-        i += 1;
+    for c in cells {
+        any = any | (*c == k);
     }
     any
-}
-
-// One of the two, four, eight, sixteen cells from i on is k. They too are looked at together.
-fn two_cells(cells: &[u8], i: usize, k: u8) -> bool
-    requires { i + 2 ≤ length cells.now }
-    ensures { result ≡ false → first_in i k (drop i cells.now) ≡ first_in (i + 2) k (drop (i + 2) cells.now) }
-{
-    (cells[i] == k) | (cells[i + 1] == k)
-}
-
-fn four_cells(cells: &[u8], i: usize, k: u8) -> bool
-    requires { i + 4 ≤ length cells.now }
-    ensures { result ≡ false → first_in i k (drop i cells.now) ≡ first_in (i + 4) k (drop (i + 4) cells.now) }
-{
-    two_cells(cells, i, k) | two_cells(cells, i + 2, k)
-}
-
-fn eight_cells(cells: &[u8], i: usize, k: u8) -> bool
-    requires { i + 8 ≤ length cells.now }
-    ensures { result ≡ false → first_in i k (drop i cells.now) ≡ first_in (i + 8) k (drop (i + 8) cells.now) }
-{
-    four_cells(cells, i, k) | four_cells(cells, i + 4, k)
-}
-
-fn sixteen_cells(cells: &[u8], i: usize, k: u8) -> bool
-    requires { i + 16 ≤ length cells.now }
-    ensures { result ≡ false → first_in i k (drop i cells.now) ≡ first_in (i + 16) k (drop (i + 16) cells.now) }
-{
-    eight_cells(cells, i, k) | eight_cells(cells, i + 8, k)
 }
 
 // A place before which, from another on, no cell is k: the cells are passed sixteen at a time.
@@ -172,10 +111,11 @@ fn past_cells(cells: &[u8], from: usize, k: u8) -> usize
 {
     let mut i = from;
     while 16 <= cells.len() - i {
-        if sixteen_cells(cells, i, k) {
+        let to = i + 16;
+        if any_is(&cells[i..to], k) {
             return i;
         }
-        i += 16;
+        i = to;
     }
     i
 }
@@ -188,42 +128,26 @@ pub fn cell_from(cells: &[u8], from: usize, k: u8) -> usize
     if n <= from {
         return n;
     }
-    let mut i = past_cells(cells, from, k);
-    while i < n {
+    for i in past_cells(cells, from, k)..n {
         if cells[i] == k {
             return i;
         }
-        i += 1;
     }
-    i
+    n
 }
 
 // An id is in a list.
 pub fn member(ids: &[u16], x: u16) -> bool
     ensures { result ≡ member_of x ids.now }
 {
-    let mut i = 0;
-    while i < ids.len() {
-        if ids[i] == x {
-            return true;
-        }
-        i += 1;
-    }
-    false
-}
-
-// Of n places those that can hold an id tried, each at its own place.
-fn tried(n: usize) -> usize
-    ensures { (result ≤ n) × (result ≤ 128) }
-{
-    if n < 128 { n } else { 128 }
+    ids.contains(&x)
 }
 
 // How many places from the first on hold the ids from 1001 on, each its own, passed eight at a time.
 fn in_row(ids: &[u16]) -> usize
     ensures { (result ≤ 128) × (result ≤ length ids.now) × InRow ids.now 0 result 1001 1 }
 {
-    let n = tried(ids.len());
+    let n = usize::min(ids.len(), 128);
     let mut i = 0;
     while 8 <= n - i {
         if !row_of_eight(ids, i, 1001 + i as u16, 1) {
@@ -248,10 +172,8 @@ fn marks_of(ids: &[u16], low: u16) -> u64
     ensures { result ≡ ids_above low ids.now }
 {
     let mut m: u64 = 0;
-    let mut i = 0;
-    while i < ids.len() {
-        m = m | mark(low, ids[i]);
-        i += 1;
+    for x in ids {
+        m = m | mark(low, *x);
     }
     m
 }
@@ -313,12 +235,5 @@ pub fn unused(ids: &[u16]) -> u16
 {
     let h = in_row(ids);
     let k = h + taken(&ids[h..], 1000 + h as u16);
-    1001 + at_most(128, k) as u16
-}
-
-// Of n listed ids the first `count`: how many there are.
-pub fn at_most(count: usize, n: usize) -> usize
-    ensures { result ≡ min count n }
-{
-    if count < n { count } else { n }
+    1001 + usize::min(128, k) as u16
 }

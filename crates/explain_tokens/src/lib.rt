@@ -43,16 +43,6 @@ fn name_at(user_ids: &[u16; 64], i: u8) -> u16
     0
 }
 
-// An id that is picked, or 0.
-fn picked(told: bool, id: u16) -> u16
-    ensures { result ≡ (if told then id else 0) }
-{
-    if told {
-        return id;
-    }
-    0
-}
-
 // The ids of the users at the places of a set.
 fn members(user_ids: &[u16; 64], us: u64) -> [u16; 64]
     ensures { result ≡ picked_from (has us) 0 user_ids.now }
@@ -61,7 +51,7 @@ fn members(user_ids: &[u16; 64], us: u64) -> [u16; 64]
     let mut ids = [0u16; 64];
     let mut i = 0;
     while i < 64 {
-        ids[i] = picked(cols_masks::has(us, i as u8), all[i]);
+        ids[i] = cols_find::if_so(cols_masks::has(us, i as u8), all[i]);
         i += 1;
     }
     ids
@@ -198,8 +188,8 @@ fn changes(
             old_token_values,
             i,
         );
-        list[i] = picked(told, was);
-        list[64 + i] = picked(told, token_ids[i]);
+        list[i] = cols_find::if_so(told, was);
+        list[64 + i] = cols_find::if_so(told, token_ids[i]);
         i += 1;
     }
     list

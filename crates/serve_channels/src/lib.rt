@@ -401,7 +401,7 @@ pub fn leave_channels(
         ≡ settle cs (leave_of cs p (take count listed.now)) out.old }
 {
     let all = &listed[..];
-    let n = cols_walk::at_most(count, all.len());
+    let n = usize::min(count, all.len());
     let list = &all[..n];
     if any_joined(
         channel_ids,

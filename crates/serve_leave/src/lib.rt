@@ -294,7 +294,7 @@ pub fn listed_on(
     ensures { let us = users_now user_ids user_links in
         Leaves us (those_on us p (once (take count list.old))) list.new result }
 {
-    let m = cols_walk::at_most(count, list[..].len());
+    let m = usize::min(count, list[..].len());
     let mut t = Leavers { count: 0, seats: 0 };
     let mut i = 0;
     while i < m {

@@ -40,7 +40,7 @@ fn put_first(out: &mut [u8], live: u16, reason: u8, list: &[u16; 64], count: usi
     ensures { (Puts out.old 0 (records_of (parting live reason (take count list.now))) out.new result) × (result ≤ 2160) }
 {
     let all = &list[..];
-    let n = cols_walk::at_most(count, all.len());
+    let n = usize::min(count, all.len());
     put_parting(out, live, reason, &all[..n])
 }
 
@@ -114,13 +114,6 @@ struct Ending {
     beyond: bool,
 }
 
-// The id of a channel, where it ends; 0 is none. A choice, and no branch.
-fn if_ends(ends: bool, c: u16) -> u16
-    ensures { result ≡ (if ends then c else 0) }
-{
-    if ends { c } else { 0 }
-}
-
 // With channel c; 0 is none.
 fn with_end(e: Ending, c: u16) -> Ending
     ensures { (xs : List ℕ) → Marks xs e → Marks (xs ++ c ∷ []) result }
@@ -152,7 +145,7 @@ fn find_ends(
     while j < 128 {
         e = with_end(
             e,
-            if_ends(ends(channel_kinds[j], managers[j], gone), channel_ids[j]),
+            cols_find::if_so(ends(channel_kinds[j], managers[j], gone), channel_ids[j]),
         );
         j = cols_walk::cell_from(channel_kinds, j + 1, 3);
     }

@@ -115,7 +115,7 @@ fn chosen(
     ensures { Takes (users_now user_ids user_links) k (take count list.old) (take result.count list.new) spots.new shares.new firsts.new result.seats
         × (result.count ≤ 64) }
 {
-    let m = cols_walk::at_most(count, list[..].len());
+    let m = usize::min(count, list[..].len());
     let mut t = Taken { count: 0, seats: 0 };
     let mut i = 0;
     while i < m {

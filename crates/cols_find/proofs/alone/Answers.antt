@@ -13,7 +13,7 @@ pub overflow_add-sum : goal.overflow_add-sum
 overflow_add-sum c = omega arith
 
 pub loop-k-preserved : goal.loop-k-preserved
-loop-k-preserved c = (search rules, summed_next c.loop-k.invariant.1 (search rules) (search rules) c.if_here-sum.ensures.0)
+loop-k-preserved c = (search rules, summed_next c.loop-k.invariant.1 (search rules) (search rules) c.if_so-sum.ensures.0)
 
 pub returns-then-sum-lt256 : goal.returns-then-sum-lt256
 returns-then-sum-lt256 c =

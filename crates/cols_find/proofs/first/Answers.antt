@@ -13,7 +13,7 @@ unfolding number
 returns-then-at_start c = let s = c.at_start.ensures c.if-at_start.true in sym (ap (number _) (first_hit _ _ 0 s.0 s.1))
 
 pub loop-i-init : goal.loop-i-init
-loop-i-init c = (search rules, c.skipped-i.ensures.1)
+loop-i-init c = (search rules, c.skipped-from.ensures.1)
 
 pub returns-then-ids-i : goal.returns-then-ids-i
 unfolding number
@@ -28,4 +28,4 @@ returns c =
     let b = c.loop-i in
     let a = c.args in
     let e : b.i ≡ length a.ids.now = omega arith in
-    e ∙ sym (ap (number (length a.ids.now)) (b.invariant.1 ∙ first_none _ _ _ (search rules)))
+    sym (ap (number (length a.ids.now)) (b.invariant.1 ∙ first_none _ _ _ (search rules)))

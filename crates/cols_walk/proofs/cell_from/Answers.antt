@@ -28,4 +28,4 @@ returns c =
     let b = c.loop-i in
     let a = c.args in
     let e : b.i ≡ length a.cells.now = omega arith in
-    e ∙ sym (ap (number (length a.cells.now)) (b.invariant.1 ∙ first_none _ _ _ (search rules)))
+    sym (ap (number (length a.cells.now)) (b.invariant.1 ∙ first_none _ _ _ (search rules)))

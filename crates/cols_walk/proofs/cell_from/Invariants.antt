@@ -1,5 +1,5 @@
 -- The loop goes up: no cell before i is k.
-use Prim.Native.Nat.{◌≤◌, ◌-◌}
+use Prim.Native.Nat.{◌≤◌}
 use mathlib.Core.Path.{◌≡◌}
 use lib.ListN.{length, drop}
 use Rattle.cols_spec.specs.Places.{first}
@@ -7,6 +7,3 @@ use Rattle.cols_walk.proofs.cell_from.Given as goal
 
 abbrev pub invariant-loop-i : goal.invariant-loop-i
 invariant-loop-i l = (l.i ≤ length l.cells) × (first l.from l.k (drop l.from l.cells) ≡ first l.i l.k (drop l.i l.cells))
-
-abbrev pub decreases-loop-i : goal.decreases-loop-i
-decreases-loop-i l = length l.cells - l.i

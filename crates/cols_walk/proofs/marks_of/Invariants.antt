@@ -1,12 +1,9 @@
 -- The places passed are marked.
-use Prim.Native.Nat.{◌-◌, ◌≤◌}
+use Prim.Native.Nat.{◌≤◌}
 use mathlib.Core.Path.{◌≡◌}
 use lib.ListN.{length, take}
 use Rattle.cols_spec.specs.Sets.{ids_above}
 use Rattle.cols_walk.proofs.marks_of.Given as goal
 
-abbrev pub invariant-loop-i : goal.invariant-loop-i
-invariant-loop-i l = (l.i ≤ length l.ids) × (l.m ≡ ids_above l.low (take l.i l.ids))
-
-abbrev pub decreases-loop-i : goal.decreases-loop-i
-decreases-loop-i l = length l.ids - l.i
+abbrev pub invariant-loop-x : goal.invariant-loop-x
+invariant-loop-x l = (l.x-index ≤ length l.ids) × (l.m ≡ ids_above l.low (take l.x-index l.ids))

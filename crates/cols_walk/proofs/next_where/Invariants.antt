@@ -1,5 +1,5 @@
 -- The same over the ids that pass, at their own places.
-use Prim.Native.Nat.{ℕ, ◌-◌}
+use Prim.Native.Nat.{ℕ}
 use mathlib.Core.Path.{◌≡◌}
 use lib.Dec.{eqb}
 use lib.ListN.{length, get_or}
@@ -8,7 +8,4 @@ use Rattle.cols_spec.proofs.Turns.{Seeking}
 use Rattle.cols_walk.proofs.next_where.Given as goal
 
 abbrev pub invariant-loop-i : goal.invariant-loop-i
-invariant-loop-i l = (l.n ≡ 64) × (length l.ids ≡ 64) × Seeking l.low (picked (λ (j : ℕ). eqb (get_or l.cells j 0) l.k) 0 l.ids) l.best l.i
-
-abbrev pub decreases-loop-i : goal.decreases-loop-i
-decreases-loop-i l = 64 - l.i
+invariant-loop-i l = (length l.ids ≡ 64) × Seeking l.low (picked (λ (j : ℕ). eqb (get_or l.cells j 0) l.k) 0 l.ids) l.best l.i

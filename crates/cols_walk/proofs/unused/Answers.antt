@@ -13,4 +13,4 @@ returns c =
     let row = c.in_row-h in
     let h = row.result in
     let e : take (length ids - h) (drop h ids) ≡ drop h ids = take_all (length ids - h) (drop h ids) (omega (arith, length-drop h ids)) in
-    unused_gap 128 ids 1001 c.at_most.result (gap_cut 128 (omega arith) c.at_most.ensures (gap_found ids 1000 h row.ensures.2 (rw e at c.taken.ensures)))
+    unused_gap 128 ids 1001 c.min.result (gap_cut 128 (omega arith) c.min.ensures (gap_found ids 1000 h row.ensures.2 (rw e at c.taken.ensures)))

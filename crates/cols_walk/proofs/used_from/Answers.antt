@@ -32,4 +32,4 @@ returns c =
     let b = c.loop-i in
     let ids = c.args.ids.now in
     let e : b.i ≡ length ids = omega arith in
-    e ∙ sym (ap (number (length ids)) (b.invariant.1 ∙ busy_none _ _ (search rules)))
+    sym (ap (number (length ids)) (b.invariant.1 ∙ busy_none _ _ (search rules)))

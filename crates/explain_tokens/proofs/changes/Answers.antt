@@ -11,7 +11,7 @@ loop-i-init c =
 
 pub loop-i-preserved : goal.loop-i-preserved
 loop-i-preserved c =
-    changing_more c.args.old_token_ids.now c.args.old_token_states.now c.args.old_token_values.now c.args.token_ids.now c.args.token_states.now c.args.token_values.now _ _ _ _ _ c.loop-i.invariant c.took-told.result _ _ _ c.picked.result c.picked-in-loop-i.result c.loop-i-test.true c.took-told.ensures c.picked.ensures c.picked-in-loop-i.ensures
+    changing_more c.args.old_token_ids.now c.args.old_token_states.now c.args.old_token_values.now c.args.token_ids.now c.args.token_states.now c.args.token_values.now _ _ _ _ _ c.loop-i.invariant c.took-told.result _ _ _ c.if_so.result c.if_so-in-loop-i.result c.loop-i-test.true c.took-told.ensures c.if_so.ensures.0 c.if_so-in-loop-i.ensures.0
 
 pub returns : goal.returns
 returns c =

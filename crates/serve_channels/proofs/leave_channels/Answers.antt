@@ -4,11 +4,11 @@ use borrow.Author.Rules.{rules}
 use mathlib.Core.Path.{sym, ◌∙◌}
 use Rattle.serve_channels.proofs.leave_channels.Goals as goal
 
-pub at_most-n-requires : goal.at_most-n-requires
-at_most-n-requires c = tt
+pub min-n-requires : goal.min-n-requires
+min-n-requires c = tt
 
 pub slice_bounds-list-end : goal.slice_bounds-list-end
-slice_bounds-list-end c = take_count _ _ _ (search rules) (least_le _ _ _ c.at_most-n.ensures)
+slice_bounds-list-end c = take_count _ _ _ (search rules) (least_le _ _ _ c.min-n.ensures)
 
 pub any_joined-requires : goal.any_joined-requires
 any_joined-requires c = tt
@@ -17,10 +17,10 @@ pub leave_all-requires : goal.leave_all-requires
 leave_all-requires c = tt
 
 pub returns-then-any_joined : goal.returns-then-any_joined
-returns-then-any_joined c = leave_done _ _ _ _ _ (take_least _ _ _ _ (search rules) c.at_most-n.ensures) (sym c.if-any_joined.true ∙ c.any_joined.ensures) _ c.leave_all.ensures
+returns-then-any_joined c = leave_done _ _ _ _ _ (take_least _ _ _ _ (search rules) c.min-n.ensures) (sym c.if-any_joined.true ∙ c.any_joined.ensures) _ c.leave_all.ensures
 
 pub ignored-requires : goal.ignored-requires
 ignored-requires c = tt
 
 pub returns : goal.returns
-returns c = rw c.ignored.ensures (leave_ignored _ _ _ _ _ (take_least _ _ _ _ (search rules) c.at_most-n.ensures) (sym c.if-any_joined.false ∙ c.any_joined.ensures))
+returns c = rw c.ignored.ensures (leave_ignored _ _ _ _ _ (take_least _ _ _ _ (search rules) c.min-n.ensures) (sym c.if-any_joined.false ∙ c.any_joined.ensures))

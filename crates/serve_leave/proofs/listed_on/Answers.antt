@@ -7,7 +7,7 @@ use Rattle.serve_leave.proofs.Picking.{pick_start, pick_turn}
 use Rattle.serve_leave.proofs.listed_on.Goals as goal
 
 pub loop-i-init : goal.loop-i-init
-loop-i-init c = (search rules, omega (arith, least_le _ _ _ c.at_most-m.ensures), search rules, pick_start _ _ _)
+loop-i-init c = (search rules, omega (arith, least_le _ _ _ c.min-m.ensures), search rules, pick_start _ _ _)
 
 pub loop-i-preserved : goal.loop-i-preserved
 loop-i-preserved c = (search rules, search rules, search rules, pick_turn c.loop-i.invariant.3 (omega arith) refl c.add_leaver-t.ensures)
@@ -15,5 +15,5 @@ loop-i-preserved c = (search rules, search rules, search rules, pick_turn c.loop
 pub returns : goal.returns
 returns c = let a = c.args in
     let b = c.loop-i in
-    let e : b.i ≡ c.at_most-m.result = omega arith in
-    rw (← take_least a.list.now a.count _ b.i (search rules) (e ∙ c.at_most-m.ensures)) b.invariant.3.leaves
+    let e : b.i ≡ c.min-m.result = omega arith in
+    rw (← take_least a.list.now a.count _ b.i (search rules) (e ∙ c.min-m.ensures)) b.invariant.3.leaves

@@ -33,8 +33,8 @@ loop-j-preserved c =
     let x = get_or a.channel_ids.now b.j 0 in
     let r = c.with_end-e.result in
     let z = nearest_cell a.channel_kinds.now 3 (b.j + 1) c.cell_from-j-in-loop-j.result c.cell_from-j-in-loop-j.ensures in
-    let is = c.if_ends.ensures ∙ ap (λ (t : Bool). if t then x else 0) c.ends.ensures in
-    let m = marks_turn test a.channel_ids.now r b.j c.if_ends.result (omega arith) is (c.with_end-e.ensures _ b.invariant.2) in
+    let is = c.if_so.ensures.0 ∙ ap (λ (t : Bool). if t then x else 0) c.ends.ensures in
+    let m = marks_turn test a.channel_ids.now r b.j c.if_so.result (omega arith) is (c.with_end-e.ensures _ b.invariant.2) in
     (b.invariant.0, b.invariant.1, marks_on test a.channel_ids.now r (b.j + 1) c.cell_from-j-in-loop-j.result (z.behind (omega arith)) (omega (arith, z.within)) (λ k h l. rw (z.passed k h l) refl) m)
 
 pub returns : goal.returns

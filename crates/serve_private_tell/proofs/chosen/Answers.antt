@@ -11,7 +11,7 @@ use Rattle.serve_private_tell.proofs.chosen.Goals as goal
 
 pub loop-i-init : goal.loop-i-init
 loop-i-init c = let h = c.requires in
-    (search rules, least_le _ _ _ c.at_most-m.ensures, search rules, search rules, search rules, refl, refl, refl, rw h.1 refl, rw h.2 refl, λ j l. refl, takes_none _ _ _ _ _ h.1 h.2)
+    (search rules, least_le _ _ _ c.min-m.ensures, search rules, search rules, search rules, refl, refl, refl, rw h.1 refl, rw h.2 refl, λ j l. refl, takes_none _ _ _ _ _ h.1 h.2)
 
 pub take_one-t-requires : goal.take_one-t-requires
 take_one-t-requires c = let b = c.loop-i in
@@ -26,5 +26,5 @@ loop-i-preserved c = let a = c.args in
 pub returns : goal.returns
 returns c = let a = c.args in
     let b = c.loop-i in
-    let e : b.i ≡ c.at_most-m.result = omega arith in
-    (rw (← take_least a.list.now a.count (length a.list.now) b.i refl (e ∙ c.at_most-m.ensures)) b.invariant.11, omega arith)
+    let e : b.i ≡ c.min-m.result = omega arith in
+    (rw (← take_least a.list.now a.count (length a.list.now) b.i refl (e ∙ c.min-m.ensures)) b.invariant.11, omega arith)
