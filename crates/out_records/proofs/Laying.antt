@@ -2,7 +2,7 @@
 use mathlib.Core.Path.{◌≡◌, refl, sym, ap, ◌∙◌}
 use mathlib.Core.Bool.{Bool, true, false}
 use mathlib.Core.List.{List, [], ◌∷◌, ◌++◌, append-nil}
-use Prim.Native.Nat.{ℕ, zero, suc, ◌+◌, ◌-◌, ◌*◌, ◌≤◌, ◌<◌, min}
+use Prim.Native.Nat.{ℕ, zero, suc, ◌+◌, ◌-◌, ◌*◌, ◌/◌, ◌%◌, ◌≤◌, ◌<◌, min}
 use native.Mathlib.Nat.{add-zero, add-suc, suc-add, zero-add, add_assoc, suc-min-suc, min-zero, zero-min}
 use native.Mathlib.Numerals.{add-one, towards_suc}
 use native.Mathlib.Omega.{arith}
@@ -10,6 +10,7 @@ use borrow.Author.Tests.{le-leb, leb-true}
 use lib.Dec.{leb}
 use lib.ListN.{length, take, drop, get_or, set, length-append, length-drop, drop_of_length-le}
 use lib.Seq.{take_at, sets, sets-eq, length-sets, take_all, drop-cons}
+use Rattle.std.specs.Int.{w16, to_be_bytes}
 use Rattle.cols_spec.proofs.Bools.{and_parts}
 use Rattle.codec_table.specs.Limits.{message_limit}
 use Rattle.out_records.specs.Records.{two, record_of}
@@ -141,6 +142,10 @@ sets_on s at i os t h e = rw (drop-cons os i 0 h, add-one, add-suc, e) refl
 
 pub sets_done : (s : List ℕ) (at i : ℕ) (os : List ℕ) → length os ≤ i → sets s at (drop i os) ≡ s
 sets_done s at i os h = rw (drop_of_length-le os h) refl
+
+-- ---- a number below 65,536 on two octets
+pub two_octets : (n : ℕ) → n < 65536 → to_be_bytes w16 n ≡ two n
+two_octets n h = let e : n / 256 % 256 ≡ n / 256 = omega arith in rw e
 
 -- ---- a loop over ids
 module _ (low : ℕ) (ids : List ℕ) (i : ℕ) where

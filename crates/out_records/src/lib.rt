@@ -3,7 +3,7 @@
 
 pub mod lists;
 
-ghost use Rattle.std.specs.Prelude.{◌≡◌, ℕ, ◌+◌, ◌-◌, ◌≤◌, ◌<◌, min, length, set};
+ghost use Rattle.std.specs.Prelude.{◌≡◌, ℕ, ◌+◌, ◌-◌, ◌≤◌, ◌<◌, length, set};
 ghost use Rattle.codec_table.specs.Limits.{message_limit};
 ghost use Rattle.out_records.specs.Records.{two, record_of};
 ghost use Rattle.out_records.specs.Out.{Puts, allowed as allowed_at, guarded, each_two, told_to, told};
@@ -31,22 +31,18 @@ fn lay(s: &mut [u8], at: usize, os: &[u8]) -> usize
     requires { (at ≤ 100000) × (length os.now ≤ message_limit) }
     ensures { Puts s.old at os.now s.new result }
 {
-    let mut i = 0;
-    while i < os.len() {
-        put(s, at + i, os[i]);
-        i += 1;
+    for (i, b) in os.iter().enumerate() {
+        put(s, at + i, *b);
     }
-    at + i
+    at + os.len()
 }
 
 // So many octets, or ids, may be put at this place.
+#[tactic(auto, unfolding(crate::specs::Out::allowed))]
 fn allowed(at: usize, count: usize) -> bool
     ensures { result ≡ allowed_at at count }
 {
-    if at <= 65535 {
-        return count <= MESSAGE_LIMIT;
-    }
-    false
+    at <= 65535 && count <= MESSAGE_LIMIT
 }
 
 pub fn put_all(s: &mut [u8], at: usize, os: &[u8]) -> usize
@@ -61,25 +57,14 @@ pub fn put_all(s: &mut [u8], at: usize, os: &[u8]) -> usize
 pub fn put_two(s: &mut [u8], at: usize, n: u16) -> usize
     ensures { Puts s.old at (guarded at (two n) (two n)) s.new result }
 {
-    let os = [(n / 256) as u8, (n % 256) as u8];
-    put_all(s, at, &os)
+    put_all(s, at, &n.to_be_bytes())
 }
 
-// A number less the lowest of its kind.
-pub fn less(n: u16, low: u16) -> u16
-    ensures { result ≡ n - low }
+// The two octets of an id: the id less the lowest of its kind, the upper octet first.
+pub fn id_octets(id: u16, low: u16) -> [u8; 2]
+    ensures { result ≡ two (id - low) }
 {
-    if n < low { 0 } else { n - low }
-}
-
-// An id on two octets.
-fn lay_id(s: &mut [u8], at: usize, low: u16, id: u16) -> usize
-    requires { at ≤ 100000 }
-    ensures { Puts s.old at (two (id - low)) s.new result }
-{
-    let n = less(id, low);
-    let os = [(n / 256) as u8, (n % 256) as u8];
-    lay(s, at, &os)
+    id.saturating_sub(low).to_be_bytes()
 }
 
 // The ids of a list on two octets each.
@@ -88,10 +73,8 @@ fn lay_ids(s: &mut [u8], from: usize, low: u16, ids: &[u16]) -> usize
     ensures { Puts s.old from (each_two low ids.now) s.new result }
 {
     let mut at = from;
-    let mut i = 0;
-    while i < ids.len() {
-        at = lay_id(s, at, low, ids[i]);
-        i += 1;
+    for id in ids {
+        at = lay(s, at, &id_octets(*id, low));
     }
     at
 }
@@ -121,18 +104,12 @@ pub fn put_record(s: &mut [u8], q: u8, m: &[u8]) -> usize
 {
     if allowed(0, m.len()) {
         let n = m.len() + 2;
-        let high = (n / 256) as u8;
-        let head = [high, (n % 256) as u8, 1, q];
+        let size = (n as u16).to_be_bytes();
+        let head = [size[0], size[1], 1, q];
         let at = lay(s, 0, &head);
         return lay(s, at, m);
     }
     0
-}
-
-fn least_of(a: usize, b: usize) -> usize
-    ensures { result ≡ min a b }
-{
-    if a < b { a } else { b }
 }
 
 // The record of a message of three octets, for which there is room: its seven octets are stored together.
@@ -161,7 +138,7 @@ fn lay_record(out: &mut [u8], at: usize, q: u8, m: &[u8]) -> usize
             return end;
         }
     }
-    let from = least_of(at, out.len());
+    let from = usize::min(at, out.len());
     at + put_record(&mut out[from..], q, m)
 }
 

@@ -1,29 +1,18 @@
 // The messages with a list that a top provider sends, and the RJum with its octets: laid into a room.
-ghost use Rattle.std.specs.Prelude.{◌∷◌, ◌++◌, ◌≤◌, length, take};
-ghost use Rattle.codec_table.specs.Limits.{list_limit};
+ghost use Rattle.std.specs.Prelude.{take};
 ghost use Rattle.codec_table.specs.Named.{DUin, RJum};
 ghost use Rattle.out_records.specs.Records.{wire};
-ghost use Rattle.out_records.specs.Out.{Puts, each_two, listing};
+ghost use Rattle.out_records.specs.Out.{Puts, listing};
 
 use codec_table::LIST_LIMIT;
-
-// A head, and behind it the list of users.
-fn lay_list(s: &mut [u8], head: &[u8], ids: &[u16]) -> usize
-    requires { (length head.now ≤ 5) × (length ids.now ≤ list_limit) }
-    ensures { Puts s.old 0 (head.now ++ length ids.now ∷ each_two 1001 ids.now) s.new result }
-{
-    let count = [ids.len() as u8];
-    let at = crate::lay(s, 0, head);
-    let from = crate::lay(s, at, &count);
-    crate::lay_ids(s, from, 1001, ids)
-}
 
 pub fn detach_indication(s: &mut [u8], reason: u8, ids: &[u16]) -> usize
     ensures { Puts s.old 0 (listing ids.now (wire (DUin reason ids.now))) s.new result }
 {
     if ids.len() <= LIST_LIMIT {
-        let head = [52 + reason / 2, reason % 2 * 128];
-        return lay_list(s, &head, ids);
+        let head = [52 + reason / 2, reason % 2 * 128, ids.len() as u8];
+        let at = crate::lay(s, 0, &head);
+        return crate::lay_ids(s, at, 1001, ids);
     }
     0
 }
@@ -32,7 +21,7 @@ pub fn detach_indication(s: &mut [u8], reason: u8, ids: &[u16]) -> usize
 pub fn reject(s: &mut [u8], diagnostic: u8, m: &[u8]) -> usize
     ensures { Puts s.old 0 (wire (RJum diagnostic (take 16 m.now))) s.new result }
 {
-    let n = crate::least_of(16, m.len());
+    let n = usize::min(16, m.len());
     let head = [36 + diagnostic / 4, diagnostic % 4 * 64, n as u8];
     let at = crate::lay(s, 0, &head);
     crate::lay(s, at, &m[..n])

@@ -6,4 +6,4 @@ pub overflow_add-result : goal.overflow_add-result
 overflow_add-result c = omega (arith, (rw (guarded_in 0 c.args.m.now _ (omega arith) c.requires.1) at c.put_record.ensures).next, framed_length c.args.m.now c.args.q)
 
 pub returns : goal.returns
-returns c = put_rest _ _ _ _ _ _ c.least_of-from.ensures (rw (guarded_in 0 c.args.m.now _ (omega arith) c.requires.1) at c.put_record.ensures)
+returns c = put_rest _ _ _ _ _ _ c.min-from.ensures (rw (guarded_in 0 c.args.m.now _ (omega arith) c.requires.1) at c.put_record.ensures)
