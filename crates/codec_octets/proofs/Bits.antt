@@ -9,7 +9,9 @@ use lib.Pow.{pow_pos, pow-add, shl_exact, mod-mod-pow}
 use borrow.Author.Tests.{le-leb, lt-leb}
 use Rattle.codec_octets.specs.Bits.{take_bits, after}
 use Rattle.codec_octets.specs.Places.{left_at, bits_at, behind, Bitwise}
-use Rattle.codec_octets.specs.declared.Got.TheVariants.{Value, No}
+use Rattle.codec_octets.specs.declared.refusal.Refusal.{Refusal}
+use Rattle.codec_octets.specs.declared.refusal.Refusal.TheVariants.{BadEncoding, TooLong}
+use Rattle.std.specs.Prelude.{Result, Ok, Err}
 use Rattle.codec_octets.proofs.Reading.{octet_at}
 
 power : (k : ℕ) → k < 8 → (1 * 2 ^ k) % 4294967296 ≡ 2 ^ k
@@ -90,7 +92,7 @@ rest_across s at w b h width = rw (left_across at w h width) (go (left_at at + 8
 
 -- what `take_bits` answers
 module _ (s : List ℕ) (at w left bits : ℕ) (inside : at ≤ length s * 8) (width : w ≤ 8) (e : left ≡ left_at at) (f : bits ≡ bits_at s at) where
-  pub bits_within : w ≤ left → Bitwise s (after w (left_at at)) (Value (bits / 2 ^ (left - w)) (at + w)) (take_bits w (left_at at) (bits_at s at) (behind s at))
+  pub bits_within : w ≤ left → Bitwise s (after w (left_at at)) (Ok (record { value = bits / 2 ^ (left - w); next = at + w })) (take_bits w (left_at at) (bits_at s at) (behind s at))
   unfolding take_bits behind
   bits_within g =
       let h : w ≤ left_at at = rw e at g in
@@ -101,12 +103,12 @@ module _ (s : List ℕ) (at w left bits : ℕ) (inside : at ≤ length s * 8) (w
         inside = ends_within at w (length s) inside h;
       })
 
-  pub bits_short : left < w → length s ≤ (at + 7) / 8 → Bitwise s (after w (left_at at)) (No 5) (take_bits w (left_at at) (bits_at s at) (behind s at))
+  pub bits_short : left < w → length s ≤ (at + 7) / 8 → Bitwise s (after w (left_at at)) (Err BadEncoding) (take_bits w (left_at at) (bits_at s at) (behind s at))
   unfolding take_bits behind
   bits_short g k = record { same = simp (lt-leb w (left_at at) (rw e at g), drop_of_length-le s k); leaves = tt; inside = tt }
 
   pub bits_across : (o : ℕ) → left < w → (at + 7) / 8 < length s → o ≡ get_or s ((at + 7) / 8) 0
-      → Bitwise s (after w (left_at at)) (Value ((bits * 256 + o) / 2 ^ (left + 8 - w)) (at + w)) (take_bits w (left_at at) (bits_at s at) (behind s at))
+      → Bitwise s (after w (left_at at)) (Ok (record { value = (bits * 256 + o) / 2 ^ (left + 8 - w); next = at + w })) (take_bits w (left_at at) (bits_at s at) (behind s at))
   unfolding take_bits behind
   bits_across o g k p =
       let h : left_at at < w = rw e at g in

@@ -1,9 +1,11 @@
 -- A place in some octets: an octet, or a bit. What the functions of src/ answer there, as what the readers of Octets and Bits give.
-use Rattle.std.specs.Prelude.{◌≡◌, Bool, true, false, cond, List, ◌∷◌, ◌++◌, ℕ, ◌+◌, ◌-◌, ◌*◌, ◌/◌, ◌%◌, ◌^◌, ◌≤◌, ◌<◌, eqb, leb, length, get_or, take, drop}
+use Rattle.std.specs.Prelude.{◌≡◌, Bool, true, false, cond, List, ◌∷◌, ◌++◌, ℕ, ◌+◌, ◌-◌, ◌*◌, ◌/◌, ◌%◌, ◌^◌, ◌≤◌, ◌<◌, eqb, leb, length, get_or, take, drop, Result, Ok, Err}
 use Rattle.codec_octets.specs.Octets.{Read, got, no}
 use Rattle.codec_octets.specs.Bits.{after, put_bits}
 use Rattle.codec_octets.specs.declared.Got.{Got}
-use Rattle.codec_octets.specs.declared.Got.TheVariants.{Value, No}
+use Rattle.codec_octets.specs.declared.refusal.Refusal.{Refusal}
+use Rattle.codec_octets.specs.declared.refusal.Refusal.TheVariants.{BadEncoding}
+use Rattle.codec_octets.specs.Refusals.{refusal_number}
 
 -- at a bit: how many bits of the octet begun are left, their value, and the octets behind them
 unfoldable pub left_at : ℕ → ℕ
@@ -16,46 +18,42 @@ unfoldable pub behind : List ℕ → ℕ → List ℕ
 behind s at = drop ((at + 7) / 8) s
 
 -- a value and the octet behind it
-abbrev pub at_octet : List ℕ → Got → Read ℕ
-at_octet s (Value v i) = got v (drop i s)
-at_octet s (No n) = no n
+abbrev pub at_octet : List ℕ → Result Got Refusal → Read ℕ
+at_octet s (Ok g) = got g.value (drop g.next s)
+at_octet s (Err r) = no (refusal_number r)
 
 -- a value and the bit behind it
-abbrev pub at_bit : List ℕ → Got → Read (ℕ × ℕ)
-at_bit s (Value v at) = got (v, bits_at s at) (behind s at)
-at_bit s (No n) = no n
+abbrev pub at_bit : List ℕ → Result Got Refusal → Read (ℕ × ℕ)
+at_bit s (Ok g) = got (g.value, bits_at s g.next) (behind s g.next)
+at_bit s (Err r) = no (refusal_number r)
 
 -- where it ended, within the message, and with so many bits left
-abbrev pub EndsAt : ℕ → Got → Type 0
-EndsAt most (Value v i) = i ≤ most
-EndsAt most (No n) = Unit {0}
+abbrev pub EndsAt : ℕ → Result Got Refusal → Type 0
+EndsAt most (Ok g) = g.next ≤ most
+EndsAt most (Err r) = Unit {0}
 
-abbrev pub Leaves : ℕ → Got → Type 0
-Leaves left (Value v at) = left_at at ≡ left
-Leaves left (No n) = Unit {0}
+abbrev pub Leaves : ℕ → Result Got Refusal → Type 0
+Leaves left (Ok g) = left_at g.next ≡ left
+Leaves left (Err r) = Unit {0}
 
 -- what was answered is what a reader gives of the octets there, and lies within them
-pub record Octetwise (s : List ℕ) (r : Got) (spec : Read ℕ) : Type 0 where
+pub record Octetwise (s : List ℕ) (r : Result Got Refusal) (spec : Read ℕ) : Type 0 where
   pub same : at_octet s r ≡ spec
   pub inside : EndsAt (length s) r
 
-pub record Bitwise (s : List ℕ) (left : ℕ) (r : Got) (spec : Read (ℕ × ℕ)) : Type 0 where
+pub record Bitwise (s : List ℕ) (left : ℕ) (r : Result Got Refusal) (spec : Read (ℕ × ℕ)) : Type 0 where
   pub same : at_bit s r ≡ spec
   pub leaves : Leaves left r
   pub inside : EndsAt (length s * 8) r
 
 -- a value up to its largest; a place counted in bits
-abbrev pub pick_got : Bool → Got → Got → Got
-pick_got true a b = a
-pick_got false a b = b
+abbrev pub capped_of : ℕ → Result Got Refusal → Result Got Refusal
+capped_of most (Ok g) = cond (leb g.value most) (Ok g) (Err BadEncoding)
+capped_of most (Err r) = Err r
 
-abbrev pub capped_of : ℕ → Got → Got
-capped_of most (Value v at) = pick_got (leb v most) (Value v at) (No 5)
-capped_of most (No n) = No n
-
-abbrev pub in_bits : Got → Got
-in_bits (Value v i) = Value v (i * 8)
-in_bits (No n) = No n
+abbrev pub in_bits : Result Got Refusal → Result Got Refusal
+in_bits (Ok g) = Ok (record { value = g.value; next = g.next * 8 })
+in_bits (Err r) = Err r
 
 -- writing: the octets before a bit, with those of the octet begun that are written, and then what is still to come there
 unfoldable pub placed : List ℕ → ℕ → ℕ × List ℕ → List ℕ

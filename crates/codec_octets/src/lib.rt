@@ -9,11 +9,11 @@ ghost use Rattle.codec_octets.specs.Places.{left_at, Octetwise};
 
 pub use refusal::Refusal;
 
-// What a reader answers: a value with the place behind it, or a refusal.
+// What is read: a value, and the place behind it.
 #[derive(Clone, Copy)]
-pub enum Got {
-    Value(u32, usize),
-    No(u8),
+pub struct Got {
+    pub value: u32,
+    pub next: usize,
 }
 
 // An octet as a number.
@@ -24,47 +24,56 @@ pub fn wide(x: u8) -> u32
 }
 
 // A length that starts at octet i.
-pub fn read_length(s: &[u8], i: usize) -> Got
+pub fn read_length(s: &[u8], i: usize) -> Result<Got, Refusal>
     ensures { Octetwise s.now result (read_length (drop i s.now)) }
 {
     if s.len() <= i {
-        return Got::No(5);
+        return Err(Refusal::BadEncoding);
     }
     let o = wide(s[i]);
     if o < 128 {
-        return Got::Value(o, i + 1);
+        return Ok(Got {
+            value: o,
+            next: i + 1,
+        });
     }
     if 192 <= o {
-        return Got::No(8);
+        return Err(Refusal::TooLong);
     }
     let j = i + 1;
     if s.len() <= j {
-        return Got::No(5);
+        return Err(Refusal::BadEncoding);
     }
     let n = (o - 128) * 256 + wide(s[j]);
     if n < 128 {
-        Got::No(5)
+        Err(Refusal::BadEncoding)
     } else {
-        Got::Value(n, j + 1)
+        Ok(Got {
+            value: n,
+            next: j + 1,
+        })
     }
 }
 
 // An id, in two octets from octet i on, above the lowest of its kind.
-pub fn read_id(s: &[u8], i: usize, low: u16) -> Got
+pub fn read_id(s: &[u8], i: usize, low: u16) -> Result<Got, Refusal>
     ensures { Octetwise s.now result (read_item (an_id low) (drop i s.now)) }
 {
     if s.len() <= i {
-        return Got::No(5);
+        return Err(Refusal::BadEncoding);
     }
     let j = i + 1;
     if s.len() <= j {
-        return Got::No(5);
+        return Err(Refusal::BadEncoding);
     }
     let n = wide(s[i]) * 256 + wide(s[j]) + low as u32;
     if 65535 < n {
-        Got::No(5)
+        Err(Refusal::BadEncoding)
     } else {
-        Got::Value(n, j + 1)
+        Ok(Got {
+            value: n,
+            next: j + 1,
+        })
     }
 }
 
@@ -76,23 +85,25 @@ pub fn left_at(at: usize) -> u32
 }
 
 // The number in k octets, most significant first, and no more of them than it takes.
-fn fewest_octets(s: &[u8], i: usize, k: usize) -> Got
+fn fewest_octets(s: &[u8], i: usize, k: usize) -> Result<Got, Refusal>
     requires { (i ≤ length s.now) × (0 < k) × (k ≤ 4) }
     ensures { Octetwise s.now result (fewest k (drop i s.now)) }
 {
     if s.len() - i < k {
-        return Got::No(5);
+        return Err(Refusal::BadEncoding);
     }
+    let octets = &s[i..i + k];
     let mut v: u32 = 0;
-    let mut j = 0;
-    while j < k {
-        v = v * 256 + wide(s[i + j]);
-        j += 1;
+    for o in octets {
+        v = v * 256 + wide(*o);
     }
     if octets_of(v) == k {
-        Got::Value(v, i + k)
+        Ok(Got {
+            value: v,
+            next: i + k,
+        })
     } else {
-        Got::No(5)
+        Err(Refusal::BadEncoding)
     }
 }
 
@@ -112,26 +123,23 @@ pub fn octets_of(v: u32) -> usize
 }
 
 // A number in k octets, where k is what its length says.
-fn read_counted(s: &[u8], i: usize, k: u32) -> Got
+fn read_counted(s: &[u8], i: usize, k: u32) -> Result<Got, Refusal>
     requires { i ≤ length s.now }
     ensures { Octetwise s.now result (counted k (drop i s.now)) }
 {
     if k == 0 {
-        return Got::No(5);
+        return Err(Refusal::BadEncoding);
     }
     if 4 < k {
-        return Got::No(8);
+        return Err(Refusal::TooLong);
     }
     fewest_octets(s, i, k as usize)
 }
 
 // An integer from 0 up, from octet i on: its length, and the fewest octets.
-pub fn read_number(s: &[u8], i: usize) -> Got
+pub fn read_number(s: &[u8], i: usize) -> Result<Got, Refusal>
     ensures { Octetwise s.now result (read_item a_number (drop i s.now)) }
 {
-    let g = read_length(s, i);
-    match g {
-        Got::No(n) => Got::No(n),
-        Got::Value(k, start) => read_counted(s, start, k),
-    }
+    let length = read_length(s, i)?;
+    read_counted(s, length.next, length.value)
 }

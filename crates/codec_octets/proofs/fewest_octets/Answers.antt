@@ -6,20 +6,20 @@ use Rattle.codec_octets.proofs.fewest_octets.Goals as goal
 pub returns-then-s-i : goal.returns-then-s-i
 returns-then-s-i c = search (rules, fewest_short)
 
-pub loop-j-init : goal.loop-j-init
-loop-j-init c = search (rules, sofar_none)
+pub loop-o-init : goal.loop-o-init
+loop-o-init c = search (rules, sofar_none)
 
 pub overflow_mul-v : goal.overflow_mul-v
-overflow_mul-v c = let h = sofar_fits c.loop-j.invariant c.loop-j-test.true (search rules) in omega arith
+overflow_mul-v c = let h = sofar_fits c.loop-o.invariant c.loop-o-test.true (search rules) in omega arith
 
 pub overflow_add-v : goal.overflow_add-v
-overflow_add-v c = let h = sofar_fits c.loop-j.invariant c.loop-j-test.true (search rules) in omega arith
+overflow_add-v c = let h = sofar_fits c.loop-o.invariant c.loop-o-test.true (search rules) in omega arith
 
-pub loop-j-preserved : goal.loop-j-preserved
-loop-j-preserved c = search (rules, sofar_more)
+pub loop-o-preserved : goal.loop-o-preserved
+loop-o-preserved c = search (rules, sofar_more)
 
 pub returns-then-octets_of-k : goal.returns-then-octets_of-k
-returns-then-octets_of-k c = fewest_is _ _ _ c.octets_of.result c.loop-j.invariant c.loop-j-test.false c.octets_of.ensures.0 c.if-octets_of-k.true
+returns-then-octets_of-k c = fewest_is _ _ _ c.octets_of.result c.loop-o.invariant c.loop-o-test.false c.octets_of.ensures.0 c.if-octets_of-k.true
 
 pub returns-else-octets_of-k : goal.returns-else-octets_of-k
-returns-else-octets_of-k c = fewest_more _ _ _ c.octets_of.result c.loop-j.invariant c.loop-j-test.false c.octets_of.ensures.0 c.if-octets_of-k.false
+returns-else-octets_of-k c = fewest_more _ _ _ c.octets_of.result c.loop-o.invariant c.loop-o-test.false c.octets_of.ensures.0 c.if-octets_of-k.false
