@@ -9,9 +9,8 @@ use lib.Pow.{pow_pos, pow-add, shl_exact, mod-mod-pow}
 use borrow.Author.Tests.{le-leb, lt-leb}
 use Rattle.codec_octets.specs.Bits.{take_bits, after}
 use Rattle.codec_octets.specs.Places.{left_at, bits_at, behind, Bitwise}
-use Rattle.codec_octets.specs.declared.refusal.Refusal.{Refusal}
-use Rattle.codec_octets.specs.declared.refusal.Refusal.TheVariants.{BadEncoding, TooLong}
-use Rattle.std.specs.Prelude.{Result, Ok, Err}
+use Rattle.codec_octets.specs.declared.refusal.Refusal.TheVariants.{BadEncoding}
+use Rattle.std.specs.Prelude.{Ok, Err}
 use Rattle.codec_octets.proofs.Reading.{octet_at}
 
 power : (k : ℕ) → k < 8 → (1 * 2 ^ k) % 4294967296 ≡ 2 ^ k

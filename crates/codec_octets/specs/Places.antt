@@ -1,5 +1,5 @@
 -- A place in some octets: an octet, or a bit. What the functions of src/ answer there, as what the readers of Octets and Bits give.
-use Rattle.std.specs.Prelude.{◌≡◌, Bool, true, false, cond, List, ◌∷◌, ◌++◌, ℕ, ◌+◌, ◌-◌, ◌*◌, ◌/◌, ◌%◌, ◌^◌, ◌≤◌, ◌<◌, eqb, leb, length, get_or, take, drop, Result, Ok, Err}
+use Rattle.std.specs.Prelude.{◌≡◌, cond, List, ◌∷◌, ◌++◌, ℕ, ◌+◌, ◌-◌, ◌*◌, ◌/◌, ◌%◌, ◌^◌, ◌≤◌, ◌<◌, eqb, leb, length, get_or, take, drop, Result, Ok, Err}
 use Rattle.codec_octets.specs.Octets.{Read, got, no}
 use Rattle.codec_octets.specs.Bits.{after, put_bits}
 use Rattle.codec_octets.specs.declared.Got.{Got}

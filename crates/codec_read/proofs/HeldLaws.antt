@@ -1,6 +1,6 @@
 -- Cells behind the last value are 0, and what `decode` answers by its fields. Assumes nothing.
 use mathlib.Core.Path.{◌≡◌, refl, sym, ap, ◌∙◌, subst}
-use mathlib.Core.Bool.{Bool, true, false, cond, not, false≢true}
+use mathlib.Core.Bool.{Bool, true, false, cond, not}
 use mathlib.Core.List.{List, [], ◌++◌}
 use Prim.Native.Nat.{ℕ, suc, ◌+◌, ◌-◌, ◌<◌, ◌≤◌}
 use native.Mathlib.Omega.{arith}
@@ -12,7 +12,11 @@ use Rattle.codec_table.specs.Limits.{list_limit}
 use Rattle.codec_table.specs.Columns.{tail_at}
 use Rattle.codec_table.proofs.CodecLaws.{wrong}
 use Rattle.codec_table.specs.Codec.{Msg, Outcome, ok, refuse}
-use Rattle.codec_read.specs.Held.{padded, is_string, no_message, decoded, head_of, kept, Reads}
+use Rattle.std.specs.Prelude.{Result, Ok, Err}
+use Rattle.codec_octets.specs.declared.refusal.Refusal.{Refusal}
+use Rattle.codec_octets.specs.Refusals.{refusal_number}
+use Rattle.codec_read.specs.Held.{padded, is_string, held, decoded, head_of, kept, Reads}
+use Rattle.codec_read.specs.declared.Decoded.{Decoded}
 use Rattle.codec_read.specs.declared.Head.{Head}
 
 module _ (k i : ℕ) (vs : List ℕ) (e : drop i vs ≡ replicate (k - i) 0) where
@@ -25,19 +29,12 @@ module _ (k i : ℕ) (vs : List ℕ) (e : drop i vs ≡ replicate (k - i) 0) whe
   padded_all h = sym (take-append-drop i vs) ∙ ap (λ l. take i vs ++ l) e ∙ rw (length-take-le i vs h)
 
 module _ (s : List ℕ) {before after : List ℕ} where
-  pub refused_is : (r : Head) (n : ℕ) (o : Outcome Msg) → r ≡ head_of (no_message n) → o ≡ refuse n → Reads s o before after r
+  pub refused_is : (r : Refusal) (o : Outcome Msg) → o ≡ refuse (refusal_number r) → Reads s o before after (Err r)
   unfolding decoded
-  refused_is r n o h e = record { head = h ∙ ap (λ x. head_of (decoded s x)) (sym e); list = λ m f. absurd (wrong (sym e ∙ f)) }
+  refused_is r o e = record { head = ap (λ x. head_of (decoded s x)) (sym e); list = λ m f. absurd (wrong (sym e ∙ f)) }
 
-  pub reads_as : {r : Head} (o p : Outcome Msg) → Reads s o before after r → o ≡ p → Reads s p before after r
+  pub reads_as : {r : Result Head Refusal} (o p : Outcome Msg) → Reads s o before after r → o ≡ p → Reads s p before after r
   reads_as {r} o p h e = subst (λ x. Reads s x before after r) e h
-
-pub by_fields : (number : ℕ) {h h' : ℕ} {vs vs' : List ℕ} {c c' : ℕ} {o o' : Bool} {st st' : ℕ}
-    → h ≡ h' → vs ≡ vs' → c ≡ c' → o ≡ o' → st ≡ st'
-    → ◌≡◌ {A = Head}
-    (record { ok = true; refusal = 0; number = number; have = h; values = vs; count = c; octets = o; start = st })
-    (record { ok = true; refusal = 0; number = number; have = h'; values = vs'; count = c'; octets = o'; start = st' })
-by_fields number a b c d e = rw (a, b, c, d, e)
 
 -- what `decode` makes of them, which lends a list that is all 0
 module _ (m : Msg) (none : tail_at m.number ≡ 0 → m.items ≡ []) where
@@ -51,13 +48,15 @@ module _ (m : Msg) (none : tail_at m.number ≡ 0 → m.items ≡ []) where
       go true false e = rw (none (eqb-true (tail_at m.number) 0 e))
       go false false e = refl
 
-pub decoded_is : (s ids : List ℕ) (h : Head) (o : Outcome Msg) → Reads s o (replicate list_limit 0) ids h → h.ok ≡ true → ((m : Msg) → o ≡ ok m → tail_at m.number ≡ 0 → m.items ≡ [])
-    → record { ok = true; refusal = 0; number = h.number; have = h.have; values = h.values; count = h.count; octets = h.octets; start = h.start; ids = ids } ≡ decoded s o
-unfolding decoded head_of no_message
-decoded_is s ids h (ok m) r e none = rw (r.head, r.list m refl, kept_clear m (none m refl))
-decoded_is s ids h (refuse n) r e none = absurd (false≢true (sym (ap (λ (x : Head). x.ok) r.head) ∙ e))
+pub decoded_is : (s ids : List ℕ) (h : Head) (o : Outcome Msg) → Reads s o (replicate list_limit 0) ids (Ok h) → ((m : Msg) → o ≡ ok m → tail_at m.number ≡ 0 → m.items ≡ [])
+    → ◌≡◌ {A = Result Decoded ℕ} (Ok (record { head = h; ids = ids })) (decoded s o)
+unfolding decoded held
+decoded_is s ids h (ok m) r none =
+    let e : h ≡ (held s m).head = cc r.head in
+    rw (e, r.list m refl, kept_clear m (none m refl))
+decoded_is s ids h (refuse n) r none = absurd (cc r.head)
 
-pub no_message_is : (s ids before : List ℕ) (h : Head) (o : Outcome Msg) → Reads s o before ids h → h.ok ≡ false → no_message h.refusal ≡ decoded s o
-unfolding decoded head_of no_message
-no_message_is s ids before h (ok m) r e = absurd (false≢true (sym e ∙ ap (λ (x : Head). x.ok) r.head))
-no_message_is s ids before h (refuse n) r e = ap (λ (x : Head). no_message x.refusal) r.head
+pub not_decoded : (s ids before : List ℕ) (r : Refusal) (o : Outcome Msg) → Reads s o before ids (Err r) → ◌≡◌ {A = Result Decoded ℕ} (Err (refusal_number r)) (decoded s o)
+unfolding decoded
+not_decoded s ids before r (ok m) h = absurd (cc h.head)
+not_decoded s ids before r (refuse n) h = cc h.head

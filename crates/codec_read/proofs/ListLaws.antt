@@ -1,6 +1,6 @@
 -- A list's items: what `read_ids`, `read_octets`, `read_list` and `read_tail` answer. Assumes nothing.
 use mathlib.Core.Path.{◌≡◌, refl, sym, ap, ◌∙◌, subst}
-use mathlib.Core.Bool.{Bool, true, false, cond, false≢true}
+use mathlib.Core.Bool.{Bool, true, false, cond}
 use mathlib.Core.List.{List, [], ◌∷◌, ◌++◌, append_assoc, append-nil}
 use Prim.Native.Nat.{ℕ, zero, suc, ◌+◌, ◌-◌, ◌%◌, ◌<◌, ◌≤◌}
 use native.Mathlib.Nat.{mod-eq_of_lt, sub-zero}
@@ -17,11 +17,15 @@ use Rattle.codec_table.specs.Messages.{channels, users, string}
 use Rattle.codec_octets.specs.Places.{Octetwise}
 use Rattle.codec_table.specs.Columns.{tail_of}
 use Rattle.codec_read.specs.Reading.{listed, rest_of, ReadsItems}
-use Rattle.codec_read.specs.declared.Items.{Items}
+use Rattle.codec_read.specs.declared.Taken.{Taken}
+use Rattle.codec_read.specs.declared.Items.TheVariants.{Ids, Octets}
 use Rattle.codec_read.specs.Held.{padded, has_ids}
 use Rattle.codec_read.proofs.HeldLaws.{clear_more, padded_all}
+use Rattle.std.specs.Prelude.{Result, Ok, Err}
 use Rattle.codec_octets.specs.declared.Got.{Got}
-use Rattle.codec_octets.specs.declared.Got.TheVariants.{Value, No}
+use Rattle.codec_octets.specs.declared.refusal.Refusal.{Refusal}
+use Rattle.codec_octets.specs.declared.refusal.Refusal.TheVariants.{BadEncoding, TooLong}
+use Rattle.codec_octets.specs.Refusals.{refusal_number}
 
 -- octets
 octets_short : (n : ℕ) (xs : List ℕ) → length xs < n → read_items an_octet n xs ≡ no 5
@@ -36,21 +40,22 @@ octets_are zero xs h = refl
 octets_are (suc n) [] h = absurd (omega arith)
 octets_are (suc n) (x ∷ xs) h = ap (λ r. follow r (λ us. give (x ∷ us))) (octets_are n xs (omega arith))
 
-pub items_no : (s : List ℕ) (octets ids : Bool) (r : Items) (n : ℕ) (spec : Read (List ℕ)) {before after : List ℕ} → (r.ok ≡ false) × (r.refusal ≡ n) × (r.next ≡ 0) → spec ≡ no n
-    → ReadsItems s octets ids r before after spec
-items_no s octets ids r n spec h e = record { same = rw (h.0, h.1) (sym e); inside = omega arith; holds = λ k. absurd (false≢true (sym h.0 ∙ k)) }
+pub items_no : (s : List ℕ) (octets ids : Bool) (r : Refusal) (spec : Read (List ℕ)) {before after : List ℕ} → spec ≡ no (refusal_number r) → ReadsItems s octets ids (Err r) before after spec
+items_no s octets ids r spec e = record { same = sym e; inside = tt; holds = tt }
 
 module _ (s : List ℕ) (from count : ℕ) (h : from ≤ length s) where
-  pub octets_no : (r : Items) (ids : List ℕ) → (r.ok ≡ false) × (r.refusal ≡ 5) × (r.next ≡ 0) → length s < from + count → ReadsItems s true false r ids ids (read_items an_octet count (drop from s))
-  octets_no r ids e l = items_no s true false r 5 _ e (octets_short count (drop from s) (omega (arith, length-drop from s)))
+  pub octets_no : (ids : List ℕ) → length s < from + count → ReadsItems s true false (Err BadEncoding) ids ids (read_items an_octet count (drop from s))
+  octets_no ids l = items_no s true false BadEncoding _ (octets_short count (drop from s) (omega (arith, length-drop from s)))
 
   pub octets_is : (ids : List ℕ) → from + count ≤ length s
-      → ReadsItems s true false (record { ok = true; refusal = 0; next = from + count; count = count; octets = true; start = from }) ids ids (read_items an_octet count (drop from s))
+      → ReadsItems s true false (Ok (record { items = Octets from count; next = from + count })) ids ids (read_items an_octet count (drop from s))
   octets_is ids l =
+      let many : length (take count (drop from s)) ≡ count = length-take-le count (drop from s) (omega (arith, length-drop from s)) in
+      let start : from + count - count ≡ from = omega arith in
       record {
         same = sym (octets_are count (drop from s) (omega (arith, length-drop from s)) ∙ ap (λ k. got (take count (drop from s)) k) (drop-drop count from s));
         inside = l;
-        holds = λ k. record { kind = refl; many = length-take-le count (drop from s) (omega (arith, length-drop from s)); starts = omega arith; cells = refl };
+        holds = record { items = rw (many, start); cells = refl };
       }
 
 -- ids, one after the other: the invariant of `read_ids`. It holds for items of any kind.
@@ -90,78 +95,76 @@ module _ {s : List ℕ} {item : Item} {from count : ℕ} {vs : List ℕ} {at i :
   step : read_items item (count - i) (drop at s) ≡ follow (read_item item (drop at s)) (λ v os. follow (read_items item (count - (i + 1)) os) (λ us. give (v ∷ us)))
   step = let e : count - i ≡ suc (count - (i + 1)) = omega arith in rw e
 
-  pub sofar_no : (g : Got) (n : ℕ) → g ≡ No n → Octetwise s g (read_item item (drop at s)) → read_items item count (drop from s) ≡ no n
+  pub sofar_no : (r : Refusal) → Octetwise s (Err r) (read_item item (drop at s)) → read_items item count (drop from s) ≡ no (refusal_number r)
   unfolding prepend
-  sofar_no g n e t = o.read ∙ ap (λ x. prepend (take i vs) x) (step ∙ ap (λ x. follow x (λ v os. follow (read_items item (count - (i + 1)) os) (λ us. give (v ∷ us)))) (sym (rw e at t.same)))
+  sofar_no r t = o.read ∙ ap (λ x. prepend (take i vs) x) (step ∙ ap (λ x. follow x (λ v os. follow (read_items item (count - (i + 1)) os) (λ us. give (v ∷ us)))) (sym t.same))
 
-  pub sofar_more : (g : Got) (v next : ℕ) → g ≡ Value v next → Octetwise s g (read_item item (drop at s)) → i < list_limit → Sofar s item from count (set vs i v) next (i + 1)
-  sofar_more g v next e t h =
-      let b : Octetwise s (Value v next) (read_item item (drop at s)) = rw e at t in
+  pub sofar_more : (g : Got) → Octetwise s (Ok g) (read_item item (drop at s)) → i < list_limit → Sofar s item from count (set vs i g.value) g.next (i + 1)
+  sofar_more g t h =
       record {
         within = omega arith;
-        inside = b.inside;
-        places = length-set vs i v ∙ o.places;
-        clear = clear_more list_limit i vs o.clear v h;
+        inside = t.inside;
+        places = length-set vs i g.value ∙ o.places;
+        clear = clear_more list_limit i vs o.clear g.value h;
         read =
-            rw (add-one, take-suc-set vs i v (omega (arith, o.places)))
+            rw (add-one, take-suc-set vs i g.value (omega (arith, o.places)))
             (rw add-one at
             (o.read
-            ∙ ap (λ x. prepend (take i vs) x) (step ∙ ap (λ x. follow x (λ v os. follow (read_items item (count - (i + 1)) os) (λ us. give (v ∷ us)))) (sym b.same))
-            ∙ prepend_one (take i vs) v (read_items item (count - (i + 1)) (drop next s))));
+            ∙ ap (λ x. prepend (take i vs) x) (step ∙ ap (λ x. follow x (λ v os. follow (read_items item (count - (i + 1)) os) (λ us. give (v ∷ us)))) (sym t.same))
+            ∙ prepend_one (take i vs) g.value (read_items item (count - (i + 1)) (drop g.next s))));
       }
 
-pub ids_more : {s : List ℕ} {low from count : ℕ} {vs : List ℕ} {at i : ℕ} → Sofar s (an_id low) from count vs at i → i < count → (g : Got) (v next : ℕ) → g ≡ Value v next
-    → Octetwise s g (read_item (an_id low) (drop at s)) → i < list_limit → Sofar s (an_id low) from count (set vs i (v % 65536)) next (i + 1)
-ids_more {s} {low} {at = at} o m g v next e t h =
-    let b : Octetwise s (Value v next) (read_item (an_id low) (drop at s)) = rw e at t in
-    let l : v ≤ 65535 = id_small low v (drop at s) (drop next s) (sym b.same) in
-    let z : v % 65536 ≡ v = mod-eq_of_lt (omega arith) in
-    rw z (sofar_more o m g v next e t h)
+pub ids_no : {s : List ℕ} {low from count : ℕ} {vs : List ℕ} {at i : ℕ} {before : List ℕ} → Sofar s (an_id low) from count vs at i → i < count → (r : Refusal)
+    → Octetwise s (Err r) (read_item (an_id low) (drop at s)) → ReadsItems s false true (Err r) before vs (read_items (an_id low) count (drop from s))
+ids_no {s} o m r t = items_no s false true r _ (sofar_no o m r t)
+
+pub ids_more : {s : List ℕ} {low from count : ℕ} {vs : List ℕ} {at i : ℕ} → Sofar s (an_id low) from count vs at i → i < count → (g : Got)
+    → Octetwise s (Ok g) (read_item (an_id low) (drop at s)) → i < list_limit → Sofar s (an_id low) from count (set vs i (g.value % 65536)) g.next (i + 1)
+ids_more {s} {low} {at = at} o m g t h =
+    let l : g.value ≤ 65535 = id_small low g.value (drop at s) (drop g.next s) (sym t.same) in
+    let z : g.value % 65536 ≡ g.value = mod-eq_of_lt (omega arith) in
+    rw z (sofar_more o m g t h)
 
 pub ids_all : {s : List ℕ} {low from count : ℕ} {before vs : List ℕ} {at i : ℕ} → Sofar s (an_id low) from count vs at i → count ≤ i → count ≤ list_limit
-    → ReadsItems s false true (record { ok = true; refusal = 0; next = at; count = count; octets = false; start = 0 }) before vs (read_items (an_id low) count (drop from s))
+    → ReadsItems s false true (Ok (record { items = Ids count; next = at })) before vs (read_items (an_id low) count (drop from s))
 unfolding prepend
 ids_all {count = count} {vs = vs} {i = i} o h few =
     let z : i ≡ count = omega (arith, o.within) in
     let room : i ≤ length vs = omega (arith, o.places) in
     let y : count - i ≡ 0 = omega arith in
+    let many : length (take count vs) ≡ count = subst (λ j. length (take j vs) ≡ j) z (length-take-le i vs room) in
     record {
       same = sym (o.read ∙ rw (y, append-nil, z));
       inside = o.inside;
-      holds = λ k.
-          record {
-            kind = refl;
-            many = subst (λ j. length (take j vs) ≡ j) z (length-take-le i vs room);
-            starts = refl;
-            cells = subst (λ j. vs ≡ padded list_limit (take j vs)) z (padded_all list_limit i vs o.clear room);
-          };
+      holds = record { items = ap Ids (sym many); cells = subst (λ j. vs ≡ padded list_limit (take j vs)) z (padded_all list_limit i vs o.clear room) };
     }
 
 -- by kind, behind the length
-module _ (s : List ℕ) (from kind n : ℕ) (r : Items) (before after : List ℕ) where
-  pub list_more : (r.ok ≡ false) × (r.refusal ≡ 8) × (r.next ≡ 0) → kind ≡ 3 → string_limit < n → ReadsItems s (eqb kind 3) (has_ids kind) r before after (listed kind n (drop from s))
+module _ (s : List ℕ) (from kind n : ℕ) (before after : List ℕ) where
+  pub list_more : kind ≡ 3 → string_limit < n → ReadsItems s (eqb kind 3) (has_ids kind) (Err TooLong) before after (listed kind n (drop from s))
   unfolding listed tail_of
-  list_more e k l = items_no s (eqb kind 3) (has_ids kind) r 8 _ e (rw k (simp (lt-leb n string_limit l)))
+  list_more k l = items_no s (eqb kind 3) (has_ids kind) TooLong _ (rw k (simp (lt-leb n string_limit l)))
 
-  pub list_more_ids : (r.ok ≡ false) × (r.refusal ≡ 8) × (r.next ≡ 0) → (kind ≡ 0 → ⊥) → (kind ≡ 3 → ⊥) → list_limit < n → ReadsItems s (eqb kind 3) (has_ids kind) r before after (listed kind n (drop from s))
+  pub list_more_ids : (kind ≡ 0 → ⊥) → (kind ≡ 3 → ⊥) → list_limit < n → ReadsItems s (eqb kind 3) (has_ids kind) (Err TooLong) before after (listed kind n (drop from s))
   unfolding listed tail_of
-  list_more_ids e z k l = items_no s (eqb kind 3) (has_ids kind) r 8 _ e (simp (ne_eqb kind 0 z, ne_eqb kind 3 k) (go (eqb kind 1)))
+  list_more_ids z k l = items_no s (eqb kind 3) (has_ids kind) TooLong _ (simp (ne_eqb kind 0 z, ne_eqb kind 3 k) (go (eqb kind 1)))
     where
       go : (t : Bool) → rest_of (cond t channels users) n (drop from s) ≡ no 8
       go true = simp (lt-leb n list_limit l)
       go false = simp (lt-leb n list_limit l)
 
-  pub list_octets : kind ≡ 3 → n ≤ string_limit → ReadsItems s true false r before after (read_items an_octet n (drop from s)) → ReadsItems s (eqb kind 3) (has_ids kind) r before after (listed kind n (drop from s))
-  unfolding listed tail_of
-  list_octets k l b = rw k (simp (le-leb n string_limit l) b)
+  module _ (r : Result Taken Refusal) where
+    pub list_octets : kind ≡ 3 → n ≤ string_limit → ReadsItems s true false r before after (read_items an_octet n (drop from s)) → ReadsItems s (eqb kind 3) (has_ids kind) r before after (listed kind n (drop from s))
+    unfolding listed tail_of
+    list_octets k l b = rw k (simp (le-leb n string_limit l) b)
 
-  pub list_channels : kind ≡ 1 → n ≤ list_limit → ReadsItems s false true r before after (read_items (an_id 0) n (drop from s)) → ReadsItems s (eqb kind 3) (has_ids kind) r before after (listed kind n (drop from s))
-  unfolding listed tail_of
-  list_channels k l b = rw k (simp (le-leb n list_limit l) b)
+    pub list_channels : kind ≡ 1 → n ≤ list_limit → ReadsItems s false true r before after (read_items (an_id 0) n (drop from s)) → ReadsItems s (eqb kind 3) (has_ids kind) r before after (listed kind n (drop from s))
+    unfolding listed tail_of
+    list_channels k l b = rw k (simp (le-leb n list_limit l) b)
 
-  pub list_users : (kind ≡ 0 → ⊥) → (kind ≡ 3 → ⊥) → (kind ≡ 1 → ⊥) → n ≤ list_limit → ReadsItems s false true r before after (read_items (an_id 1001) n (drop from s)) → ReadsItems s (eqb kind 3) (has_ids kind) r before after (listed kind n (drop from s))
-  unfolding listed tail_of
-  list_users z k j l b = simp (ne_eqb kind 0 z, ne_eqb kind 3 k, ne_eqb kind 1 j, le-leb n list_limit l) b
+    pub list_users : (kind ≡ 0 → ⊥) → (kind ≡ 3 → ⊥) → (kind ≡ 1 → ⊥) → n ≤ list_limit → ReadsItems s false true r before after (read_items (an_id 1001) n (drop from s)) → ReadsItems s (eqb kind 3) (has_ids kind) r before after (listed kind n (drop from s))
+    unfolding listed tail_of
+    list_users z k j l b = simp (ne_eqb kind 0 z, ne_eqb kind 3 k, ne_eqb kind 1 j, le-leb n list_limit l) b
 
 -- what follows the fields
 tail_of_lem : (kind : ℕ) → (kind ≡ 0 → ⊥) → tail_of kind ≡ cond (eqb kind 3) string (cond (eqb kind 1) channels users)
@@ -178,15 +181,14 @@ tail_by_length kind xs z = go (eqb kind 3) (eqb kind 1) (tail_of kind) (tail_of_
     go false false t e = rw e
 
 module _ (s : List ℕ) (from kind : ℕ) where
-  pub tail_none : (ids : List ℕ) → kind ≡ 0 → from ≤ length s
-      → ReadsItems s (eqb kind 3) (has_ids kind) (record { ok = true; refusal = 0; next = from; count = 0; octets = false; start = 0 }) ids ids (read_tail (tail_of kind) (drop from s))
+  pub tail_none : (ids : List ℕ) → kind ≡ 0 → from ≤ length s → ReadsItems s (eqb kind 3) (has_ids kind) (Ok (record { items = Ids 0; next = from })) ids ids (read_tail (tail_of kind) (drop from s))
   unfolding tail_of
-  tail_none ids z h = record { same = rw z; inside = h; holds = λ k. rw z (record { kind = refl; many = refl; starts = refl; cells = refl }) }
+  tail_none ids z h = record { same = rw z; inside = h; holds = rw z (record { items = refl; cells = refl }) }
 
-  module _ (z : kind ≡ 0 → ⊥) (r : Items) (before after : List ℕ) (g : Got) (b : Octetwise s g (read_length (drop from s))) where
-    pub tail_no : (n : ℕ) → g ≡ No n → (r.ok ≡ false) × (r.refusal ≡ n) × (r.next ≡ 0) → ReadsItems s (eqb kind 3) (has_ids kind) r before after (read_tail (tail_of kind) (drop from s))
-    tail_no n e f = items_no s (eqb kind 3) (has_ids kind) r n _ f (tail_by_length kind (drop from s) z ∙ ap (λ x. follow x (listed kind)) (sym (rw e at b.same)))
+  module _ (z : kind ≡ 0 → ⊥) (before after : List ℕ) where
+    pub tail_no : (r : Refusal) → Octetwise s (Err r) (read_length (drop from s)) → ReadsItems s (eqb kind 3) (has_ids kind) (Err r) before after (read_tail (tail_of kind) (drop from s))
+    tail_no r b = items_no s (eqb kind 3) (has_ids kind) r _ (tail_by_length kind (drop from s) z ∙ ap (λ x. follow x (listed kind)) (sym b.same))
 
-    pub tail_is : (n at : ℕ) → g ≡ Value n at → ReadsItems s (eqb kind 3) (has_ids kind) r before after (listed kind n (drop at s)) → ReadsItems s (eqb kind 3) (has_ids kind) r before after (read_tail (tail_of kind) (drop from s))
-    tail_is n at e c =
-        record { same = c.same ∙ sym (tail_by_length kind (drop from s) z ∙ ap (λ x. follow x (listed kind)) (sym (rw e at b.same))); inside = c.inside; holds = c.holds }
+    pub tail_is : (g : Got) (r : Result Taken Refusal) → Octetwise s (Ok g) (read_length (drop from s)) → ReadsItems s (eqb kind 3) (has_ids kind) r before after (listed kind g.value (drop g.next s))
+        → ReadsItems s (eqb kind 3) (has_ids kind) r before after (read_tail (tail_of kind) (drop from s))
+    tail_is g r b c = record { same = c.same ∙ sym (tail_by_length kind (drop from s) z ∙ ap (λ x. follow x (listed kind)) (sym b.same)); inside = c.inside; holds = c.holds }

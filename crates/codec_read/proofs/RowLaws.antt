@@ -15,10 +15,13 @@ use Rattle.codec_octets.proofs.OctetLaws.{both_right, followed, needed}
 use Rattle.codec_table.specs.Messages.{code, kind, Row, plain, optional, uncovered, unknown, row}
 use Rattle.codec_table.specs.Codec.{take_field, take_body, take_row, fits_fields, fits_row, chosen, Msg, Outcome, ok, refuse, ending, decode}
 use Rattle.codec_octets.specs.Places.{left_at, bits_at, behind, at_bit}
-use Rattle.codec_read.specs.Reading.{TakesField, message, body_at, row_at, onward, GoesOn}
+use Rattle.codec_read.specs.Reading.{TakesField, message, body_at, row_at, GoesOn}
 use Rattle.codec_table.specs.Columns.{form_at, count_at, tail_at, fields_of, tail_of, last_field, row_from}
+use Rattle.std.specs.Prelude.{Result, Ok, Err}
 use Rattle.codec_octets.specs.declared.Got.{Got}
-use Rattle.codec_octets.specs.declared.Got.TheVariants.{Value, No}
+use Rattle.codec_octets.specs.declared.refusal.Refusal.{Refusal}
+use Rattle.codec_octets.specs.declared.refusal.Refusal.TheVariants.{BadEncoding, NotServed}
+use Rattle.codec_octets.specs.Refusals.{refusal_number}
 use Rattle.codec_table.proofs.NamedLaws.{read_fits}
 use Rattle.codec_table.proofs.ColumnLaws.{row_from_lem, one_more, no_tail, count_few, count_one_more}
 
@@ -42,71 +45,65 @@ module _ (s : List ℕ) (at n : ℕ) where
   unfolding row_from body_at
   row_plain z l = by_row (plain (fields_of n (count_at n)) (tail_of (tail_at n))) (row_from_lem n ∙ rw (eq-eqb (form_at n) 0 z)) ∙ rw l
 
-  module _ (z : form_at n ≡ 1) (l : left_at at ≡ 2) (g : Got) (t : TakesField s at (code 1 1) g) where
+  module _ (z : form_at n ≡ 1) (l : left_at at ≡ 2) (g : Result Got Refusal) (t : TakesField s at (code 1 1) g) where
     optional_row : row_at s at n ≡ of_presence n (at_bit s g)
     unfolding row_from of_presence
     optional_row =
         by_row (optional (fields_of n (count_at n)) (last_field n)) (row_from_lem n ∙ simp (ne_eqb (form_at n) 0 (λ e. omega arith), eq-eqb (form_at n) 1 z))
         ∙ ap (λ x. of_presence n x) (subst (λ k. take_field (code 1 1) k (bits_at s at) (behind s at) ≡ at_bit s g) l (sym t.same))
 
-    tail_nothing : tail_of (tail_at n) ≡ nothing
-    tail_nothing = no_tail n z
-
-    row_no : (k : ℕ) → g ≡ No k → row_at s at n ≡ refuse k
+  module _ (z : form_at n ≡ 1) (l : left_at at ≡ 2) where
+    row_no : (r : Refusal) → TakesField s at (code 1 1) (Err r) → row_at s at n ≡ refuse (refusal_number r)
     unfolding of_presence
-    row_no k e = optional_row ∙ ap (λ q. of_presence n (at_bit s q)) e
+    row_no r t = optional_row z l (Err r) t
 
-    module _ (v next : ℕ) (e : g ≡ Value v next) where
-      left_one : left_at next ≡ 1
-      left_one = let b : TakesField s at (code 1 1) (Value v next) = rw e at t in rw l at b.leaves
+    module _ (g : Got) (t : TakesField s at (code 1 1) (Ok g)) where
+      left_one : left_at g.next ≡ 1
+      left_one = rw l at t.leaves
 
-      row_present : v ≡ 1 → row_at s at n ≡ body_at s next (count_at n + 1) n
+      row_present : g.value ≡ 1 → row_at s at n ≡ body_at s g.next (count_at n + 1) n
       unfolding body_at of_presence
-      row_present k = optional_row ∙ ap (λ q. of_presence n (at_bit s q)) e ∙ rw (eq-eqb v 1 k, one_more n z, tail_nothing, left_one)
+      row_present k = optional_row z l (Ok g) t ∙ rw (eq-eqb g.value 1 k, one_more n z, no_tail n z, left_one)
 
-      row_absent : (v ≡ 1 → ⊥) → row_at s at n ≡ body_at s next (count_at n) n
+      row_absent : (g.value ≡ 1 → ⊥) → row_at s at n ≡ body_at s g.next (count_at n) n
       unfolding body_at of_presence
-      row_absent k = optional_row ∙ ap (λ q. of_presence n (at_bit s q)) e ∙ rw (ne_eqb v 1 k, tail_nothing, left_one)
+      row_absent k = optional_row z l (Ok g) t ∙ rw (ne_eqb g.value 1 k, no_tail n z, left_one)
 
   -- what `presence` answers
-  pub on_unknown : 2 < form_at n → GoesOn s at n (No 5)
+  pub on_unknown : 2 < form_at n → GoesOn s at n (Err BadEncoding)
   on_unknown u = record { same = sym (row_unknown u); inside = tt; few = tt }
 
-  pub on_uncovered : form_at n ≡ 2 → GoesOn s at n (No 7)
+  pub on_uncovered : form_at n ≡ 2 → GoesOn s at n (Err NotServed)
   on_uncovered u = record { same = sym (row_uncovered u); inside = tt; few = tt }
 
-  pub on_plain : form_at n ≡ 0 → left_at at ≡ 2 → at ≤ length s * 8 → GoesOn s at n (Value 0 at)
+  pub on_plain : form_at n ≡ 0 → left_at at ≡ 2 → at ≤ length s * 8 → GoesOn s at n (Ok (record { value = 0; next = at }))
   on_plain z l h = record { same = rw add-zero (sym (row_plain z l)); inside = h; few = omega (arith, count_few n) }
 
-  one_bit : (v next : ℕ) → TakesField s at (code 1 1) (Value v next) → v ≤ 1
+  one_bit : (g : Got) → TakesField s at (code 1 1) (Ok g) → g.value ≤ 1
   unfolding take_field
-  one_bit v next t =
+  one_bit g t =
       followed (take_bits 1 (left_at at) (bits_at s at) (behind s at)) (λ u. need (leb u.0 1) 5 (give u)) (sym t.same) λ u rest read then.
       needed (leb u.0 1) 5 (give u) rest then λ most same.
-      let p : u ≡ (v, bits_at s next) = cc in
-      let z : u.0 ≡ v = ap (λ (q : ℕ × ℕ). q.0) p in
+      let p : u ≡ (g.value, bits_at s g.next) = cc in
+      let z : u.0 ≡ g.value = ap (λ (q : ℕ × ℕ). q.0) p in
       omega (arith, leb-true u.0 1 most)
 
-  pub on_optional : form_at n ≡ 1 → left_at at ≡ 2 → (g : Got) → TakesField s at (code 1 1) g → GoesOn s at n g
-  on_optional z l (No k) t = record { same = sym (row_no z l (No k) t k refl); inside = tt; few = tt }
-  on_optional z l (Value v next) t =
-      let b : v ≤ 1 = one_bit v next t in
-      record { same = sym (go (eqb v 1) refl); inside = t.inside; few = omega (arith, count_one_more n z) }
+  pub on_optional : form_at n ≡ 1 → left_at at ≡ 2 → (g : Result Got Refusal) → TakesField s at (code 1 1) g → GoesOn s at n g
+  on_optional z l (Err r) t = record { same = sym (row_no z l r t); inside = tt; few = tt }
+  on_optional z l (Ok g) t =
+      let b : g.value ≤ 1 = one_bit g t in
+      record { same = sym (go (eqb g.value 1) refl); inside = t.inside; few = omega (arith, count_one_more n z) }
     where
-      go : (k : Bool) → eqb v 1 ≡ k → row_at s at n ≡ body_at s next (count_at n + v) n
-      go true e = let o : v ≡ 1 = eqb-true v 1 e in row_present z l (Value v next) t v next refl o ∙ rw o
+      go : (k : Bool) → eqb g.value 1 ≡ k → row_at s at n ≡ body_at s g.next (count_at n + g.value) n
+      go true e = let o : g.value ≡ 1 = eqb-true g.value 1 e in row_present z l g t o ∙ rw o
       go false e =
-          let b : v ≤ 1 = one_bit v next t in
-          let no : v ≡ 1 → ⊥ = eqb-false v 1 e in
-          let o : v ≡ 0 = omega (arith, no) in
-          row_absent z l (Value v next) t v next refl no ∙ rw (o, add-zero)
+          let b : g.value ≤ 1 = one_bit g t in
+          let no : g.value ≡ 1 → ⊥ = eqb-false g.value 1 e in
+          let o : g.value ≡ 0 = omega (arith, no) in
+          row_absent z l g t no ∙ rw (o, add-zero)
 
-  module _ (g : Got) (o : GoesOn s at n g) where
-    pub on_no : (k : ℕ) → g ≡ No k → row_at s at n ≡ refuse k
-    on_no k e = sym o.same ∙ ap (λ q. onward s n q) e
-
-    pub on_body : (v next : ℕ) → g ≡ Value v next → (body_at s next (count_at n + v) n ≡ row_at s at n) × (next ≤ length s * 8) × (count_at n + v ≤ 4)
-    on_body v next e = let p : GoesOn s at n (Value v next) = rw e at o in (p.same, p.inside, p.few)
+  pub on_no : (r : Refusal) → GoesOn s at n (Err r) → row_at s at n ≡ refuse (refusal_number r)
+  on_no r o = sym o.same
 
 -- a message that nothing follows has no items
 items_none : (items : List ℕ) → eqb (length items) 0 ≡ true → items ≡ []
@@ -139,24 +136,22 @@ module _ (s : List ℕ) where
   unfolding decode
   decode_over h = simp (lt-ltb 0 (length s) (omega arith), lt-leb (length s) message_limit h)
 
-  module _ (some : length s ≡ 0 → ⊥) (most : length s ≤ message_limit) (g : Got) (t : TakesField s 0 kind g) where
-    first : take_field kind 0 0 s ≡ at_bit s g
-    unfolding left_at bits_at behind
-    first = subst (λ k. take_field kind 0 k s ≡ at_bit s g) (mod-one (get_or s 0 0)) (sym t.same)
+  module _ (some : length s ≡ 0 → ⊥) (most : length s ≤ message_limit) where
+    by_number : (g : Result Got Refusal) → TakesField s 0 kind g → decode s ≡ of_number (at_bit s g)
+    unfolding decode of_number left_at bits_at behind
+    by_number g t =
+        let first : take_field kind 0 0 s ≡ at_bit s g = subst (λ k. take_field kind 0 k s ≡ at_bit s g) (mod-one (get_or s 0 0)) (sym t.same) in
+        simp (lt-ltb 0 (length s) (omega arith), le-leb (length s) message_limit most) (ap of_number first)
 
-    by_number : decode s ≡ of_number (at_bit s g)
-    unfolding decode of_number
-    by_number = simp (lt-ltb 0 (length s) (omega arith), le-leb (length s) message_limit most) (ap of_number first)
-
-    pub decode_no : (k : ℕ) → g ≡ No k → decode s ≡ refuse k
+    pub decode_no : (r : Refusal) → TakesField s 0 kind (Err r) → decode s ≡ refuse (refusal_number r)
     unfolding of_number
-    decode_no k e = by_number ∙ ap (λ q. of_number (at_bit s q)) e
+    decode_no r t = by_number (Err r) t
 
-    module _ (v at : ℕ) (e : g ≡ Value v at) where
-      pub number_left : left_at at ≡ 2
+    module _ (g : Got) (t : TakesField s 0 kind (Ok g)) where
+      pub number_left : left_at g.next ≡ 2
       unfolding left_at
-      number_left = let b : TakesField s 0 kind (Value v at) = rw e at t in b.leaves
+      number_left = t.leaves
 
-      pub decode_is : decode s ≡ row_at s at v
+      pub decode_is : decode s ≡ row_at s g.next g.value
       unfolding of_number row_at
-      decode_is = by_number ∙ ap (λ q. of_number (at_bit s q)) e
+      decode_is = by_number (Ok g) t

@@ -1,9 +1,13 @@
--- What `decode` answers: the message, with every cell that it does not use 0; or the refusal, with 0 everywhere else. And the same where the ids
--- are stored in a list that is lent.
-use Rattle.std.specs.Prelude.{◌≡◌, Bool, true, false, cond, not, List, [], ◌++◌, ℕ, ◌-◌, eqb, length, replicate}
+-- What `decode` answers: the message, with every cell that it does not use 0; or the refusal, by its number. And the same where the ids are stored
+-- in a list that is lent.
+use Rattle.std.specs.Prelude.{◌≡◌, Bool, true, false, cond, not, List, [], ◌++◌, ℕ, ◌-◌, eqb, length, replicate, Result, Ok, Err}
+use Rattle.codec_octets.specs.declared.refusal.Refusal.{Refusal}
+use Rattle.codec_octets.specs.Refusals.{numbered}
 use Rattle.codec_table.specs.Limits.{list_limit}
 use Rattle.codec_table.specs.Columns.{tail_at}
 use Rattle.codec_table.specs.Codec.{Msg, Outcome, ok, refuse}
+use Rattle.codec_read.specs.declared.Items.{Items}
+use Rattle.codec_read.specs.declared.Items.TheVariants.{Ids, Octets}
 use Rattle.codec_read.specs.declared.Decoded.{Decoded}
 use Rattle.codec_read.specs.declared.Head.{Head}
 
@@ -14,49 +18,32 @@ padded k vs = vs ++ replicate (k - length vs) 0
 abbrev pub is_string : ℕ → Bool
 is_string number = eqb (tail_at number) 3
 
-unfoldable pub no_message : ℕ → Decoded
-no_message n =
-    record {
-      ok = false;
-      refusal = n;
-      number = 0;
-      have = 0;
-      values = padded 4 [];
-      count = 0;
-      octets = false;
-      start = 0;
-      ids = padded list_limit [];
-    }
+-- a string stays where it stands in the octets, up to the place given, and only its start is said; ids are stored, and only their count is said
+abbrev pub items_held : Bool → ℕ → List ℕ → Items
+items_held true end items = Octets (end - length items) (length items)
+items_held false end items = Ids (length items)
 
--- a string is last: it stays where it stands in the octets, and only its start is said
-unfoldable pub decoded : List ℕ → Outcome Msg → Decoded
-decoded s (ok m) =
+-- a string is last
+unfoldable pub held : List ℕ → Msg → Decoded
+held s m =
     record {
-      ok = true;
-      refusal = 0;
-      number = m.number;
-      have = length m.values;
-      values = padded 4 m.values;
-      count = length m.items;
-      octets = is_string m.number;
-      start = cond (is_string m.number) (length s - length m.items) 0;
+      head = record {
+        number = m.number;
+        have = length m.values;
+        values = padded 4 m.values;
+        items = items_held (is_string m.number) (length s) m.items;
+      };
       ids = padded list_limit (cond (is_string m.number) [] m.items);
     }
-decoded s (refuse n) = no_message n
+
+unfoldable pub decoded : List ℕ → Outcome Msg → Result Decoded ℕ
+decoded s (ok m) = Ok (held s m)
+decoded s (refuse n) = Err n
 
 -- all but the ids
-unfoldable pub head_of : Decoded → Head
-head_of d =
-    record {
-      ok = d.ok;
-      refusal = d.refusal;
-      number = d.number;
-      have = d.have;
-      values = d.values;
-      count = d.count;
-      octets = d.octets;
-      start = d.start;
-    }
+abbrev pub head_of : Result Decoded ℕ → Result Head ℕ
+head_of (Ok d) = Ok d.head
+head_of (Err n) = Err n
 
 -- whether what follows a message's fields is a list of ids: neither nothing nor a string
 abbrev pub has_ids : ℕ → Bool
@@ -67,6 +54,6 @@ unfoldable pub kept : Msg → List ℕ → List ℕ
 kept m before = cond (has_ids (tail_at m.number)) (padded list_limit m.items) before
 
 -- a refusal may come behind some ids that are stored: nothing is said of the list then
-pub record Reads (s : List ℕ) (o : Outcome Msg) (before after : List ℕ) (r : Head) : Type 0 where
-  pub head : r ≡ head_of (decoded s o)
+pub record Reads (s : List ℕ) (o : Outcome Msg) (before after : List ℕ) (r : Result Head Refusal) : Type 0 where
+  pub head : numbered r ≡ head_of (decoded s o)
   pub list : (m : Msg) → o ≡ ok m → after ≡ kept m before

@@ -1,5 +1,4 @@
 use borrow.Author.Rules.{rules}
-use Rattle.std.proofs.lemmas.Result.{err_from_is_err_and}
 use Rattle.codec_octets.proofs.Numbers.{number_no, number_is}
 use Rattle.codec_octets.proofs.read_number.Goals as goal
 

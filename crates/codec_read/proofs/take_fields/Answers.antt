@@ -7,11 +7,11 @@ use Rattle.codec_read.proofs.take_fields.Goals as goal
 pub loop-i-init : goal.loop-i-init
 loop-i-init c = search (rules, sofar_none)
 
-pub returns-in-No : goal.returns-in-No
-returns-in-No c = fields_no _ c.loop-i.invariant (search rules) c.loop-i-test.true _ (c.kind_in-kind.ensures ∙ kind_at_lem _ _ c.requires.3 _) _ c.take_field-g.ensures _ c.in-No.is
+pub returns-in_err-g : goal.returns-in_err-g
+returns-in_err-g c = search (rules, fields_no, kind_at_lem)
 
 pub loop-i-preserved : goal.loop-i-preserved
-loop-i-preserved c = fields_more _ c.loop-i.invariant (search rules) c.loop-i-test.true _ (c.kind_in-kind.ensures ∙ kind_at_lem _ _ c.requires.3 _) _ c.take_field-g.ensures _ _ c.in-Value.is
+loop-i-preserved c = fields_more _ c.loop-i.invariant (search rules) c.loop-i-test.true _ (c.kind_in.ensures ∙ kind_at_lem _ _ c.requires.3 _) _ c.in_ok-g.ensures
 
 pub returns : goal.returns
 returns c = fields_all _ c.loop-i.invariant (search rules) c.loop-i-test.false
