@@ -1,5 +1,5 @@
 -- The numbers of the replies that document 01 lists for what the codec refuses.
-use Rattle.std.specs.Prelude.{ℕ, Result, Ok, Err}
+use Rattle.std.specs.Prelude.{ℕ}
 use Rattle.codec_octets.specs.declared.refusal.Refusal.{Refusal}
 use Rattle.codec_octets.specs.declared.refusal.Refusal.TheVariants.{WrongLength, BadEncoding, NotServed, TooLong, NoRoom}
 
@@ -9,8 +9,3 @@ refusal_number BadEncoding = 5
 refusal_number NotServed = 7
 refusal_number TooLong = 8
 refusal_number NoRoom = 9
-
--- an answer, with the number of its refusal
-abbrev pub numbered : {T : Type 0} → Result T Refusal → Result T ℕ
-numbered (Ok x) = Ok x
-numbered (Err r) = Err (refusal_number r)

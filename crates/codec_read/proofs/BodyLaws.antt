@@ -74,7 +74,7 @@ module _ (s : List ℕ) (at count number : ℕ) where
             record {
               head =
                   let e : u.items ≡ items_held (is_string number) (length s) message_read.items = body_items n in
-                  ap (λ (x : Items). Ok (record { number = number; have = count; values = f.values; items = x })) e
+                  ap (λ (x : Items). ok (record { number = number; have = count; values = f.values; items = x })) e
                   ∙ rw (body_whole n, ← t.cells.0, t.cells.1);
               list = λ m w. let z : message_read ≡ m = cc (body_whole n, w) in body_kept ∙ ap (λ x. kept x before) z;
             }

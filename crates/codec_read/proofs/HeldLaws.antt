@@ -49,14 +49,14 @@ module _ (m : Msg) (none : tail_at m.number ≡ 0 → m.items ≡ []) where
       go false false e = refl
 
 pub decoded_is : (s ids : List ℕ) (h : Head) (o : Outcome Msg) → Reads s o (replicate list_limit 0) ids (Ok h) → ((m : Msg) → o ≡ ok m → tail_at m.number ≡ 0 → m.items ≡ [])
-    → ◌≡◌ {A = Result Decoded ℕ} (Ok (record { head = h; ids = ids })) (decoded s o)
+    → ◌≡◌ {A = Outcome Decoded} (ok (record { head = h; ids = ids })) (decoded s o)
 unfolding decoded held
 decoded_is s ids h (ok m) r none =
     let e : h ≡ (held s m).head = cc r.head in
     rw (e, r.list m refl, kept_clear m (none m refl))
 decoded_is s ids h (refuse n) r none = absurd (cc r.head)
 
-pub not_decoded : (s ids before : List ℕ) (r : Refusal) (o : Outcome Msg) → Reads s o before ids (Err r) → ◌≡◌ {A = Result Decoded ℕ} (Err (refusal_number r)) (decoded s o)
+pub not_decoded : (s ids before : List ℕ) (r : Refusal) (o : Outcome Msg) → Reads s o before ids (Err r) → ◌≡◌ {A = Outcome Decoded} (refuse (refusal_number r)) (decoded s o)
 unfolding decoded
 not_decoded s ids before r (ok m) h = absurd (cc h.head)
 not_decoded s ids before r (refuse n) h = cc h.head

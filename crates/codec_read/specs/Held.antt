@@ -1,8 +1,8 @@
 -- What `decode` answers: the message, with every cell that it does not use 0; or the refusal, by its number. And the same where the ids are stored
 -- in a list that is lent.
-use Rattle.std.specs.Prelude.{◌≡◌, Bool, true, false, cond, not, List, [], ◌++◌, ℕ, ◌-◌, eqb, length, replicate, Result, Ok, Err}
+use Rattle.std.specs.Prelude.{◌≡◌, Bool, true, false, cond, not, List, [], ◌++◌, ℕ, ◌-◌, eqb, length, replicate, Result}
 use Rattle.codec_octets.specs.declared.refusal.Refusal.{Refusal}
-use Rattle.codec_octets.specs.Refusals.{numbered}
+use Rattle.codec_table.specs.Answers.{outcome_of}
 use Rattle.codec_table.specs.Limits.{list_limit}
 use Rattle.codec_table.specs.Columns.{tail_at}
 use Rattle.codec_table.specs.Codec.{Msg, Outcome, ok, refuse}
@@ -36,14 +36,14 @@ held s m =
       ids = padded list_limit (cond (is_string m.number) [] m.items);
     }
 
-unfoldable pub decoded : List ℕ → Outcome Msg → Result Decoded ℕ
-decoded s (ok m) = Ok (held s m)
-decoded s (refuse n) = Err n
+unfoldable pub decoded : List ℕ → Outcome Msg → Outcome Decoded
+decoded s (ok m) = ok (held s m)
+decoded s (refuse n) = refuse n
 
 -- all but the ids
-abbrev pub head_of : Result Decoded ℕ → Result Head ℕ
-head_of (Ok d) = Ok d.head
-head_of (Err n) = Err n
+abbrev pub head_of : Outcome Decoded → Outcome Head
+head_of (ok d) = ok d.head
+head_of (refuse n) = refuse n
 
 -- whether what follows a message's fields is a list of ids: neither nothing nor a string
 abbrev pub has_ids : ℕ → Bool
@@ -55,5 +55,5 @@ kept m before = cond (has_ids (tail_at m.number)) (padded list_limit m.items) be
 
 -- a refusal may come behind some ids that are stored: nothing is said of the list then
 pub record Reads (s : List ℕ) (o : Outcome Msg) (before after : List ℕ) (r : Result Head Refusal) : Type 0 where
-  pub head : numbered r ≡ head_of (decoded s o)
+  pub head : outcome_of r ≡ head_of (decoded s o)
   pub list : (m : Msg) → o ≡ ok m → after ≡ kept m before

@@ -2,7 +2,7 @@
 #![tactic(auto)]
 
 ghost use Rattle.std.specs.Prelude.{◌≡◌, ℕ, ◌+◌, ◌*◌, ◌-◌, ◌<◌, ◌≤◌, true, false, List, eqb, length, drop};
-ghost use Rattle.codec_octets.specs.Refusals.{numbered};
+ghost use Rattle.codec_table.specs.Answers.{outcome_of};
 ghost use Rattle.codec_octets.specs.Octets.{an_id, a_number, an_octet, read_items, read_tail};
 ghost use Rattle.codec_table.specs.Limits.{list_limit, message_limit};
 ghost use Rattle.codec_table.specs.Messages.{code, item};
@@ -355,7 +355,7 @@ pub fn read_into(s: &[u8], ids: &mut [u16; LIST_LIMIT]) -> Result<Head, Refusal>
 // The message of these octets.
 #[tactic(auto, using(crate::proofs::HeldLaws::not_decoded))]
 pub fn decode(s: &[u8]) -> Result<Decoded, Refusal>
-    ensures { numbered result ≡ decoded s.now (decode_of s.now) }
+    ensures { outcome_of result ≡ decoded s.now (decode_of s.now) }
 {
     let mut ids = [0u16; LIST_LIMIT];
     let head = read_into(s, &mut ids)?;

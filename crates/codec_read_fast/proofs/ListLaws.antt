@@ -15,7 +15,7 @@ use Rattle.codec_octets.proofs.Reading.{length_one}
 use Rattle.codec_table.specs.Limits.{list_limit, message_limit}
 use Rattle.codec_table.specs.Messages.{Field, plain, row}
 use Rattle.codec_table.specs.Columns.{count_at}
-use Rattle.codec_read.specs.Held.{padded, is_string, decoded}
+use Rattle.codec_read.specs.Held.{padded, is_string, held, decoded}
 use Rattle.codec_read_fast.specs.declared.lists.Head.{Head}
 use Rattle.codec_read_fast.specs.Shortly.{IdAt}
 use Rattle.codec_read_fast.specs.Listed.{in_list, Counts, Stored, Heads}
@@ -67,7 +67,7 @@ module _ (s : List ℕ) (o : ℕ) (is : o ≡ get_or s 0 0) (some : 0 < length s
   pub heads : Takes s 1 2 b fs vs (drop at s) → begins o ≡ ((plain fs (list (an_id low) list_limit), false, true, length vs), b)
       → padded 4 vs ≡ get_or vs 0 0 ∷ get_or vs 1 0 ∷ 0 ∷ 0 ∷ [] → at ≤ 5 → low ≤ 65536
       → Heads s (record { at = at; low = low; number = o / 4; first = get_or vs 0 0; second = get_or vs 1 0 })
-  unfolding in_list decoded
+  unfolding in_list decoded held
   heads t e cells near most =
       let a = ap (λ (x : About × ℕ). x.0) e in
       let row_is : row (o / 4) ≡ plain fs (list (an_id low) list_limit) = ap (λ (x : About). x.0) a in

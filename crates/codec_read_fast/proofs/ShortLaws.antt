@@ -19,7 +19,7 @@ use Rattle.codec_table.specs.Columns.{count_at}
 use Rattle.codec_table.specs.Codec.{take_field, take_fields, take_row, read_msg, ok, ending, decode}
 use Rattle.codec_read_fast.specs.declared.Short.{Short}
 use Rattle.codec_read_fast.specs.declared.tokens.Wish.{Wish}
-use Rattle.codec_read.specs.Held.{padded, is_string, decoded}
+use Rattle.codec_read.specs.Held.{padded, is_string, held, decoded}
 use Rattle.codec_read.specs.Reading.{decode_of}
 use Rattle.codec_read_fast.specs.Shortly.{of_values, in_full, in_words, short_number, token_number, NoneRead, Shortly, Wishes, id_value, IdAt, NoIdAt, NoWish, Wished}
 
@@ -144,8 +144,8 @@ module _ (s : List ℕ) (o b : ℕ) (first : First s o b) (fs : List Field) (vs 
 
   -- and one of values alone
   module _ (t : Takes s 1 2 b fs vs []) where
-    same_values : about (o / 4) ≡ (plain fs nothing, false, true, length vs) → of_values (o / 4) (padded 4 vs) ≡ decoded s (decode_of s)
-    unfolding of_values decoded
+    same_values : about (o / 4) ≡ (plain fs nothing, false, true, length vs) → ok (of_values (o / 4) (padded 4 vs)) ≡ decoded s (decode_of s)
+    unfolding of_values decoded held
     same_values e =
         rw (whole nothing (ap (λ (x : About). x.0) e) [] [] t refl, ap (λ (x : About). x.1) e, ap (λ (x : About). x.3) e) refl
 

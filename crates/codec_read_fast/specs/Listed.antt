@@ -1,10 +1,12 @@
 -- What is read straight into a list that is lent: the same message as the long way gives, and one that is served.
-use Rattle.std.specs.Prelude.{◌≡◌, true, false, List, [], ◌∷◌, ℕ, ◌+◌, ◌*◌, ◌≤◌, length, get_or, take, drop}
+use Rattle.std.specs.Prelude.{◌≡◌, true, List, [], ◌∷◌, ℕ, ◌+◌, ◌*◌, ◌≤◌, length, get_or, take, drop}
 use Rattle.codec_octets.specs.Octets.{got, an_id, read_items}
 use Rattle.codec_table.specs.Limits.{list_limit}
 use Rattle.codec_table.specs.Messages.{is_served}
 use Rattle.codec_table.specs.Columns.{count_at}
+use Rattle.codec_table.specs.Codec.{ok}
 use Rattle.codec_read.specs.declared.Decoded.{Decoded}
+use Rattle.codec_read.specs.declared.Items.TheVariants.{Ids}
 use Rattle.codec_read.specs.Held.{padded, decoded}
 use Rattle.codec_read.specs.Reading.{decode_of}
 use Rattle.codec_read_fast.specs.declared.lists.Listing.{Listing}
@@ -14,19 +16,12 @@ use Rattle.codec_read_fast.specs.declared.lists.Head.{Head}
 unfoldable pub in_list : Listing → List ℕ → Decoded
 in_list l ids =
     record {
-      ok = true;
-      refusal = 0;
-      number = l.number;
-      have = count_at l.number;
-      values = l.first ∷ l.second ∷ 0 ∷ 0 ∷ [];
-      count = l.count;
-      octets = false;
-      start = 0;
+      head = record { number = l.number; have = count_at l.number; values = l.first ∷ l.second ∷ 0 ∷ 0 ∷ []; items = Ids l.count };
       ids = padded list_limit (take l.count ids);
     }
 
 pub record Listed (s : List ℕ) (l : Listing) (ids : List ℕ) : Type 0 where
-  pub same : in_list l ids ≡ decoded s (decode_of s)
+  pub same : ok (in_list l ids) ≡ decoded s (decode_of s)
   pub stored : length (take l.count ids) ≡ l.count
   pub served : is_served l.number ≡ true
 

@@ -6,6 +6,7 @@ use Rattle.codec_table.specs.Messages.{is_served}
 use Rattle.codec_table.specs.Columns.{count_at}
 use Rattle.codec_table.specs.Codec.{Msg, ok, decode}
 use Rattle.codec_read.specs.declared.Decoded.{Decoded}
+use Rattle.codec_read.specs.declared.Items.TheVariants.{Ids}
 use Rattle.codec_read_fast.specs.declared.Short.{Short}
 use Rattle.codec_read_fast.specs.declared.tokens.Wish.{Wish}
 use Rattle.codec_read.specs.Held.{padded, decoded}
@@ -14,17 +15,7 @@ use Rattle.codec_read.specs.Reading.{decode_of}
 -- a message of these values as `decode` answers it: no items, and every cell that it does not use is 0
 unfoldable pub of_values : (number : ℕ) (values : List ℕ) → Decoded
 of_values number values =
-    record {
-      ok = true;
-      refusal = 0;
-      number = number;
-      have = count_at number;
-      values = values;
-      count = 0;
-      octets = false;
-      start = 0;
-      ids = padded list_limit [];
-    }
+    record { head = record { number = number; have = count_at number; values = values; items = Ids 0 }; ids = padded list_limit [] }
 
 unfoldable pub in_full : Short → Decoded
 in_full q = of_values q.number (q.first ∷ q.second ∷ 0 ∷ 0 ∷ [])
@@ -46,12 +37,12 @@ unfoldable pub few_ids : ℕ → Bool
 few_ids n = token_number n || short_number n
 
 pub record Shortly (s : List ℕ) (q : Short) : Type 0 where
-  pub same : in_full q ≡ decoded s (decode_of s)
+  pub same : ok (in_full q) ≡ decoded s (decode_of s)
   pub served : is_served q.number ≡ true
   pub few : short_number q.number ≡ true
 
 pub record Wishes (s : List ℕ) (w : Wish) : Type 0 where
-  pub same : in_words w ≡ decoded s (decode_of s)
+  pub same : ok (in_words w) ≡ decoded s (decode_of s)
   pub served : is_served w.number ≡ true
   pub few : token_number w.number ≡ true
 

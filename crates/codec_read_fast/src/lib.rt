@@ -6,12 +6,13 @@ pub mod lists;
 pub mod tokens;
 
 ghost use Rattle.std.specs.Prelude.{◌≡◌, [], ◌∷◌, ◌+◌, ◌<◌, ◌≤◌, length, MatchOption};
+ghost use Rattle.codec_table.specs.Answers.{outcome_of};
 ghost use Rattle.codec_read.specs.Reading.{decode_of};
 ghost use Rattle.codec_read.specs.Held.{decoded};
 ghost use Rattle.codec_read_fast.specs.Shortly.{of_values, in_full, in_words, short_number, NoneRead, Shortly, IdAt, NoIdAt};
 
-use codec_octets::wide;
-use codec_read::Decoded;
+use codec_octets::{Refusal, wide};
+use codec_read::{Decoded, Head, Items};
 use codec_table::LIST_LIMIT;
 use tokens::Wish;
 
@@ -108,17 +109,13 @@ fn of_values(number: u32, a: u16, b: u16, c: u16) -> Decoded
 {
     let values = [a as u32, b as u32, c as u32, 0];
     let ids = [0u16; LIST_LIMIT];
-    Decoded {
-        ok: true,
-        refusal: 0,
-        number: number,
+    let head = Head {
+        number,
         have: codec_table::count_of(number),
-        values: values,
-        count: 0,
-        octets: false,
-        start: 0,
-        ids: ids,
-    }
+        values,
+        items: Items::Ids(0),
+    };
+    Decoded { head, ids }
 }
 
 // What was read the short way, as the long way holds it.
@@ -139,14 +136,14 @@ fn in_words(w: Wish) -> Decoded
 }
 
 // The message of these octets: the short way first, else by the table of messages.
-pub fn decode(s: &[u8]) -> Decoded
-    ensures { result ≡ decoded s.now (decode_of s.now) }
+pub fn decode(s: &[u8]) -> Result<Decoded, Refusal>
+    ensures { outcome_of result ≡ decoded s.now (decode_of s.now) }
 {
     if let Some(w) = tokens::read_token(s) {
-        return in_words(w);
+        return Ok(in_words(w));
     }
     if let Some(q) = read_short(s) {
-        return in_full(q);
+        return Ok(in_full(q));
     }
     codec_read::decode(s)
 }

@@ -4,10 +4,10 @@
 ghost use Rattle.std.specs.Prelude.{◌≡◌, ◌*◌, ◌<◌, ◌≤◌, length};
 ghost use Rattle.codec_table.specs.Limits.{message_limit};
 ghost use Rattle.codec_read.specs.Reading.{decode_of};
-ghost use Rattle.codec_stop.specs.Stops.{refusal_of};
+ghost use Rattle.codec_stop.specs.Stops.{refusal_of, told};
 
 use codec_cursor::field_of;
-use codec_octets::{Got, left_at, read_id, read_length, wide};
+use codec_octets::{Refusal, left_at, read_id, read_length, wide};
 use codec_table::{MESSAGE_LIMIT, count_of, form_of, kind_of, tail_of};
 
 // The part of a message: its number, a field by its place, the list or string behind the fields, or the end.
@@ -48,21 +48,21 @@ pub enum Why {
     Left,
 }
 
-// The refusal, 0 where all is read; the bit where what is refused starts; its part of the message; and why.
+// The refusal, none where all is read; the bit where what is refused starts; its part of the message; and why.
 #[derive(Clone, Copy)]
 pub struct Stop {
-    pub refusal: u8,
+    pub refusal: Option<Refusal>,
     pub bit: usize,
     pub part: Part,
     pub why: Why,
 }
 
 // A refusal at a bit.
-fn stop_at(refusal: u8, bit: usize, part: Part, why: Why) -> Stop
-    ensures { result.refusal ≡ refusal }
+fn stop_at(refusal: Refusal, bit: usize, part: Part, why: Why) -> Stop
+    ensures { result.refusal ≡ Some refusal }
 {
     Stop {
-        refusal,
+        refusal: Some(refusal),
         bit,
         part,
         why,
@@ -87,39 +87,37 @@ fn missing_or(left: usize, needed: usize, other: Why) -> Why {
 }
 
 // Why a length is refused, where so many octets are left.
-fn why_length(left: usize, refusal: u8) -> Why {
-    if refusal == 8 {
+fn why_length(left: usize, refusal: Refusal) -> Why {
+    if refusal == Refusal::TooLong {
         return Why::Fragmented;
     }
     missing_or(left, 2, Why::LongForm)
 }
 
 // Where an integer from octet i on is refused: at its length, or behind it.
-fn stop_number(s: &[u8], i: usize, part: Part, refusal: u8) -> Stop
+fn stop_number(s: &[u8], i: usize, part: Part, refusal: Refusal) -> Stop
     requires { (i ≤ length s.now) × (length s.now ≤ message_limit) }
-    ensures { result.refusal ≡ refusal }
+    ensures { result.refusal ≡ Some refusal }
 {
     let bit = i * 8;
-    let g = read_length(s, i);
-    match g {
-        Got::No(_) => stop_at(refusal, bit, part, why_length(s.len() - i, refusal)),
-        Got::Value(k, at) => {
-            if refusal == 8 {
-                return stop_at(refusal, bit, part, Why::Wide);
-            }
-            if k == 0 {
-                return stop_at(refusal, bit, part, Why::Empty);
-            }
-            let why = missing_or(s.len() - at, k as usize, Why::Padded);
-            stop_at(refusal, at * 8, part, why)
-        }
+    let Ok(length) = read_length(s, i) else {
+        return stop_at(refusal, bit, part, why_length(s.len() - i, refusal));
+    };
+    if refusal == Refusal::TooLong {
+        return stop_at(refusal, bit, part, Why::Wide);
     }
+    if length.value == 0 {
+        return stop_at(refusal, bit, part, Why::Empty);
+    }
+    let at = length.next;
+    let why = missing_or(s.len() - at, length.value as usize, Why::Padded);
+    stop_at(refusal, at * 8, part, why)
 }
 
 // Where field i, of a kind of the table of messages, is refused: a code of 4 or 3 bits, an id or an integer on the next octet.
-fn stop_field(s: &[u8], bit: usize, i: usize, kind: u8, refusal: u8) -> Stop
+fn stop_field(s: &[u8], bit: usize, i: usize, kind: u8, refusal: Refusal) -> Stop
     requires { (bit ≤ length s.now * 8) × (length s.now ≤ message_limit) }
-    ensures { result.refusal ≡ refusal }
+    ensures { result.refusal ≡ Some refusal }
 {
     let part = Part::Field(i);
     if kind < 4 {
@@ -138,34 +136,27 @@ fn stop_field(s: &[u8], bit: usize, i: usize, kind: u8, refusal: u8) -> Stop
 }
 
 // Where one of some ids above the lowest of their kind is refused, from octet `from` on; or what is left over behind them.
-fn stop_ids(s: &[u8], from: usize, low: u16, count: u32, refusal: u8) -> Stop
+fn stop_ids(s: &[u8], from: usize, low: u16, count: u32, refusal: Refusal) -> Stop
     requires { (from ≤ length s.now) × (length s.now ≤ message_limit) }
-    ensures { result.refusal ≡ refusal }
+    ensures { result.refusal ≡ Some refusal }
 {
     let mut at = from;
-    let mut i = 0;
-    while i < count {
-        let g = read_id(s, at, low);
-        match g {
-            Got::No(_) => {
-                let why = missing_or(s.len() - at, 2, Why::Range);
-                return stop_at(refusal, at * 8, Part::Items, why);
-            }
-            Got::Value(_, next) => {
-                at = next;
-                i += 1;
-            }
-        }
+    for _ in 0..count {
+        let Ok(id) = read_id(s, at, low) else {
+            let why = missing_or(s.len() - at, 2, Why::Range);
+            return stop_at(refusal, at * 8, Part::Items, why);
+        };
+        at = id.next;
     }
     stop_at(refusal, at * 8, Part::End, Why::Left)
 }
 
 // Where a list or string is refused whose length n stands at a bit, and whose items start at octet `at`; or what is left over behind it.
-fn stop_listed(s: &[u8], bit: usize, at: usize, kind: u8, n: u32, refusal: u8) -> Stop
+fn stop_listed(s: &[u8], bit: usize, at: usize, kind: u8, n: u32, refusal: Refusal) -> Stop
     requires { (at ≤ length s.now) × (length s.now ≤ message_limit) }
-    ensures { result.refusal ≡ refusal }
+    ensures { result.refusal ≡ Some refusal }
 {
-    if refusal == 8 {
+    if refusal == Refusal::TooLong {
         return stop_at(refusal, bit, Part::Items, Why::Many);
     }
     if kind < 3 {
@@ -180,9 +171,9 @@ fn stop_listed(s: &[u8], bit: usize, at: usize, kind: u8, n: u32, refusal: u8) -
 }
 
 // Where what follows the fields, of a kind of the table of messages, is refused; or what is left over behind it.
-fn stop_tail(s: &[u8], bit: usize, kind: u8, refusal: u8) -> Stop
+fn stop_tail(s: &[u8], bit: usize, kind: u8, refusal: Refusal) -> Stop
     requires { (bit ≤ length s.now * 8) × (length s.now ≤ message_limit) }
-    ensures { result.refusal ≡ refusal }
+    ensures { result.refusal ≡ Some refusal }
 {
     let part = if kind == 0 { Part::End } else { Part::Items };
     if skips(s, bit) {
@@ -193,38 +184,32 @@ fn stop_tail(s: &[u8], bit: usize, kind: u8, refusal: u8) -> Stop
     if kind == 0 {
         return stop_at(refusal, from, part, Why::Left);
     }
-    let g = read_length(s, i);
-    match g {
-        Got::No(_) => stop_at(refusal, from, part, why_length(s.len() - i, refusal)),
-        Got::Value(n, at) => stop_listed(s, from, at, kind, n, refusal),
+    match read_length(s, i) {
+        Err(_) => stop_at(refusal, from, part, why_length(s.len() - i, refusal)),
+        Ok(length) => stop_listed(s, from, length.next, kind, length.value, refusal),
     }
 }
 
 // Where the fields of a message, from a bit on, or what follows them, are refused.
-fn stop_fields(s: &[u8], from: usize, number: u32, count: usize, refusal: u8) -> Stop
+fn stop_fields(s: &[u8], from: usize, number: u32, count: usize, refusal: Refusal) -> Stop
     requires { (from ≤ length s.now * 8) × (length s.now ≤ message_limit) }
-    ensures { result.refusal ≡ refusal }
+    ensures { result.refusal ≡ Some refusal }
 {
     let mut bit = from;
-    let mut i = 0;
-    while i < count {
+    for i in 0..count {
         let kind = kind_of(number, i);
-        let g = field_of(s, bit, kind);
-        match g {
-            Got::No(_) => return stop_field(s, bit, i, kind, refusal),
-            Got::Value(_, next) => {
-                bit = next;
-                i += 1;
-            }
-        }
+        let Ok(field) = field_of(s, bit, kind) else {
+            return stop_field(s, bit, i, kind, refusal);
+        };
+        bit = field.next;
     }
     stop_tail(s, bit, tail_of(number), refusal)
 }
 
 // Where a message is refused, by its number, in the first 6 bits; the next bit may say that an OPTIONAL field is there.
-fn stop_row(s: &[u8], refusal: u8) -> Stop
+fn stop_row(s: &[u8], refusal: Refusal) -> Stop
     requires { (0 < length s.now) × (length s.now ≤ message_limit) }
-    ensures { result.refusal ≡ refusal }
+    ensures { result.refusal ≡ Some refusal }
 {
     let o = wide(s[0]);
     let number = o / 4;
@@ -242,26 +227,32 @@ fn stop_row(s: &[u8], refusal: u8) -> Stop
     stop_at(refusal, 0, Part::Number, Why::Unknown)
 }
 
-// Where octets are refused that decode gives a refusal for, or 0 for none.
-fn stop_message(s: &[u8], refusal: u8) -> Stop
+// Where octets are refused that decode gives a refusal for, or that all is read.
+fn stop_message(s: &[u8], refusal: Option<Refusal>) -> Stop
     ensures { result.refusal ≡ refusal }
 {
-    if s.len() == 0 {
-        return stop_at(refusal, 0, Part::Number, Why::Size);
+    if s.len() == 0 || MESSAGE_LIMIT < s.len() {
+        return Stop {
+            refusal,
+            bit: 0,
+            part: Part::Number,
+            why: Why::Size,
+        };
     }
-    if MESSAGE_LIMIT < s.len() {
-        return stop_at(refusal, 0, Part::Number, Why::Size);
+    match refusal {
+        None => Stop {
+            refusal: None,
+            bit: s.len() * 8,
+            part: Part::End,
+            why: Why::Read,
+        },
+        Some(r) => stop_row(s, r),
     }
-    if refusal == 0 {
-        return stop_at(refusal, s.len() * 8, Part::End, Why::Read);
-    }
-    stop_row(s, refusal)
 }
 
 // Where the reading of these octets stops: with the refusal that decode gives.
 pub fn where_stopped(s: &[u8]) -> Stop
-    ensures { result.refusal ≡ refusal_of (decode_of s.now) }
+    ensures { told result.refusal ≡ refusal_of (decode_of s.now) }
 {
-    let d = codec_read::decode(s);
-    stop_message(s, d.refusal)
+    stop_message(s, codec_read::decode(s).err())
 }

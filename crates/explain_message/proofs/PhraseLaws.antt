@@ -1,19 +1,24 @@
 -- The texts of a message, by the cases that the code tells apart. Assumes nothing.
 use Prim.Native.Nat.{ℕ, ◌-◌, ◌/◌, ◌≤◌, ◌<◌}
 use mathlib.Core.Path.{◌≡◌, refl, sym, ap, ◌∙◌}
-use mathlib.Core.Bool.{true, false}
-use mathlib.Core.List.{List, [], ◌∷◌, ◌++◌}
+use mathlib.Core.Bool.{true}
+use mathlib.Core.List.{List, [], ◌∷◌}
 use native.Mathlib.Omega.{arith}
 use borrow.Author.Tests.{eq-eqb, ne_eqb, lt-ltb, le-ltb}
 use lib.ListN.{length, take, drop, get_or, length-drop}
 use lib.Seq.{take-length}
-use Rattle.codec_table.specs.Columns.{tail_at}
+use Rattle.std.specs.Prelude.{Ok, Err}
+use Rattle.codec_octets.specs.declared.refusal.Refusal.{Refusal}
+use Rattle.codec_table.specs.Answers.{outcome_of}
+use Rattle.codec_table.specs.Codec.{Msg, Outcome}
+use Rattle.codec_read.specs.Held.{decoded}
 use Rattle.codec_read.specs.declared.Decoded.{Decoded}
+use Rattle.codec_read.specs.declared.Items.{Items}
 use Rattle.trace_io.specs.Lines.{decimal, each}
 use Rattle.trace_io.specs.Hexadecimal.{octet_texts}
 use Rattle.explain_words.specs.Letters.{ascii}
 use Rattle.explain_words.specs.Words.{word, placed, part_words, message_words}
-use Rattle.explain_message.specs.Messages.{value_text, field_texts, ids_texts, list_texts, octets_texts, tail_texts, unread_texts, least, read_texts, message_texts}
+use Rattle.explain_message.specs.Messages.{value_text, ids_texts, list_texts, octets_texts, items_texts, tail_texts, unread_texts, least, read_texts, message_texts}
 
 -- the value of a field, by its kind
 pub value_at : (k kind v : ℕ) → kind ≡ k → value_text k v ∷ [] ≡ value_text kind v ∷ []
@@ -41,19 +46,14 @@ unfolding octets_texts
 octets_some os e = rw (ne_eqb (length os) 0 e) refl
 
 -- what follows the fields, by its kind
-pub tail_none : (kind : ℕ) (ids os : List ℕ) → kind ≡ 0 → [] ≡ tail_texts kind ids os
+pub tail_none : (kind : ℕ) (items : Items) (ids os : List ℕ) → kind ≡ 0 → [] ≡ tail_texts kind items ids os
 unfolding tail_texts
-tail_none kind ids os e = rw (eq-eqb kind 0 e) refl
+tail_none kind items ids os e = rw (eq-eqb kind 0 e) refl
 
-pub tail_octets : (kind : ℕ) (ids os : List ℕ) → (kind ≡ 0 → ⊥) → kind ≡ 3
-    → ascii " " ∷ word (placed part_words 3 (kind - 1)) ∷ octets_texts os ≡ tail_texts kind ids os
+pub tail_some : (kind : ℕ) (items : Items) (ids os : List ℕ) → (kind ≡ 0 → ⊥)
+    → ascii " " ∷ word (placed part_words 3 (kind - 1)) ∷ items_texts items ids os ≡ tail_texts kind items ids os
 unfolding tail_texts
-tail_octets kind ids os n e = rw (ne_eqb kind 0 n, eq-eqb kind 3 e) refl
-
-pub tail_list : (kind : ℕ) (ids os : List ℕ) → (kind ≡ 0 → ⊥) → (kind ≡ 3 → ⊥)
-    → ascii " " ∷ word (placed part_words 3 (kind - 1)) ∷ list_texts ids ≡ tail_texts kind ids os
-unfolding tail_texts
-tail_list kind ids os n e = rw (ne_eqb kind 0 n, ne_eqb kind 3 e) refl
+tail_some kind items ids os n = rw (ne_eqb kind 0 n) refl
 
 -- octets that are not read
 pub unread_none : (os : List ℕ) → length os ≡ 0 → ascii "no octets" ∷ [] ≡ unread_texts os
@@ -77,20 +77,14 @@ pub least_most : (n most : ℕ) → most ≤ n → (most ≡ least n most) × (m
 least_most n most h = (sym (rw (le-ltb n most h) refl), omega arith)
 
 -- a part up to the end
-all_behind : (os : List ℕ) (k : ℕ) → take (length os - k) (drop k os) ≡ drop k os
+pub all_behind : (os : List ℕ) (k : ℕ) → take (length os - k) (drop k os) ≡ drop k os
 all_behind os k = ap (λ n. take n (drop k os)) (sym (length-drop k os)) ∙ take-length (drop k os)
 
 -- a message that is read, and one that is not
-pub message_unread : (os : List ℕ) (d e : Decoded) → d ≡ e → d.ok ≡ false → unread_texts os ≡ message_texts os e
+pub message_unread : (os : List ℕ) (r : Refusal) (o : Outcome Msg) → outcome_of {T = Decoded} (Err r) ≡ decoded os o → unread_texts os ≡ message_texts os (decoded os o)
 unfolding message_texts
-message_unread os d e h n = rw (← h, n) refl
+message_unread os r o e = rw (← e) refl
 
-pub message_read : (os : List ℕ) (d e : Decoded) (have count start tail : ℕ) (rest : List ℕ) → d ≡ e → d.ok ≡ true → have ≡ least d.have (length d.values) → count ≡ least d.count (length d.ids)
-    → start ≡ least d.start (length os) → rest ≡ take (length os - start) (drop start os) → tail ≡ tail_at d.number
-    → word (placed message_words 43 d.number) ∷ []
-    ++ each (field_texts d.number) 0 (take have d.values)
-    ++ tail_texts tail (take count d.ids) rest
-    ≡ message_texts os e
-unfolding message_texts read_texts
-message_read os d e have count start tail rest h n a b c l t =
-    rw (← h, n, a, b, t, l ∙ all_behind os start, c) refl
+pub message_read : (os : List ℕ) (d : Decoded) (o : Outcome Msg) → outcome_of (Ok d) ≡ decoded os o → read_texts os d ≡ message_texts os (decoded os o)
+unfolding message_texts
+message_read os d o e = rw (← e) refl

@@ -1,7 +1,10 @@
 -- A message in words, as a list of texts.
 use Rattle.std.specs.Prelude.{ℕ, ◌-◌, ◌/◌, cond, true, List, [], ◌∷◌, ◌++◌, eqb, ltb, length, take, drop, get_or}
+use Rattle.codec_table.specs.Codec.{Outcome, ok, refuse}
 use Rattle.codec_table.specs.Columns.{tail_at, kind_at}
 use Rattle.codec_read.specs.declared.Decoded.{Decoded}
+use Rattle.codec_read.specs.declared.Items.{Items}
+use Rattle.codec_read.specs.declared.Items.TheVariants.{Ids, Octets}
 use Rattle.trace_io.specs.Lines.{decimal, each}
 use Rattle.trace_io.specs.Hexadecimal.{octet_texts}
 use Rattle.explain_words.specs.Letters.{ascii}
@@ -34,11 +37,19 @@ list_texts ids = cond (eqb (length ids) 0) (ascii " none" ∷ []) (each ids_text
 unfoldable pub octets_texts : List ℕ → List (List ℕ)
 octets_texts os = cond (eqb (length os) 0) (ascii " none" ∷ []) (each (octet_texts true) 0 os)
 
+abbrev pub least : ℕ → ℕ → ℕ
+least n most = cond (ltb n most) n most
+
+-- a message's items: its string, which lies in the octets read, or the first of the ids
+unfoldable pub items_texts : Items → List ℕ → List ℕ → List (List ℕ)
+items_texts (Octets start count) ids os = octets_texts (drop (least start (length os)) os)
+items_texts (Ids count) ids os = list_texts (take (least count (length ids)) ids)
+
 -- what follows the fields, by its kind: nothing; octets or a list by their name
-unfoldable pub tail_texts : ℕ → List ℕ → List ℕ → List (List ℕ)
-tail_texts kind ids os =
+unfoldable pub tail_texts : ℕ → Items → List ℕ → List ℕ → List (List ℕ)
+tail_texts kind items ids os =
     cond (eqb kind 0) []
-    (ascii " " ∷ word (placed part_words 3 (kind - 1)) ∷ cond (eqb kind 3) (octets_texts os) (list_texts ids))
+    (ascii " " ∷ word (placed part_words 3 (kind - 1)) ∷ items_texts items ids os)
 
 -- octets that are not read: no octets, or the message's name, or its number
 unfoldable pub unread_texts : List ℕ → List (List ℕ)
@@ -46,15 +57,13 @@ unread_texts os =
     cond (eqb (length os) 0) (ascii "no octets" ∷ [])
     (cond (ltb (get_or os 0 0 / 4) 43) (word (placed message_words 43 (get_or os 0 0 / 4)) ∷ []) (ascii "number " ∷ decimal (get_or os 0 0 / 4) ∷ []))
 
-abbrev pub least : ℕ → ℕ → ℕ
-least n most = cond (ltb n most) n most
-
 -- what is read of some octets: the name, the fields, what follows them
 unfoldable pub read_texts : List ℕ → Decoded → List (List ℕ)
 read_texts os d =
-    word (placed message_words 43 d.number) ∷ []
-    ++ each (field_texts d.number) 0 (take (least d.have (length d.values)) d.values)
-    ++ tail_texts (tail_at d.number) (take (least d.count (length d.ids)) d.ids) (drop (least d.start (length os)) os)
+    word (placed message_words 43 d.head.number) ∷ []
+    ++ each (field_texts d.head.number) 0 (take (least d.head.have (length d.head.values)) d.head.values)
+    ++ tail_texts (tail_at d.head.number) d.head.items d.ids os
 
-unfoldable pub message_texts : List ℕ → Decoded → List (List ℕ)
-message_texts os d = cond d.ok (read_texts os d) (unread_texts os)
+unfoldable pub message_texts : List ℕ → Outcome Decoded → List (List ℕ)
+message_texts os (ok d) = read_texts os d
+message_texts os (refuse n) = unread_texts os

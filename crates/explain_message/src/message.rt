@@ -3,8 +3,9 @@ ghost use Rattle.std.specs.Prelude.{◌≡◌, [], ◌∷◌, ◌≤◌};
 ghost use Rattle.codec_read.specs.Held.{decoded};
 ghost use Rattle.codec_read.specs.Reading.{decode_of};
 ghost use Rattle.trace_io.specs.Lines.{Says, each};
-ghost use Rattle.explain_message.specs.Messages.{value_text, field_texts, id_texts, ids_texts, list_texts, octets_texts, tail_texts, unread_texts, least, message_texts};
+ghost use Rattle.explain_message.specs.Messages.{value_text, field_texts, id_texts, ids_texts, list_texts, octets_texts, items_texts, tail_texts, unread_texts, least, read_texts, message_texts};
 
+use codec_read::{Decoded, Items};
 use explain_words::fields::field_word;
 use explain_words::words::{say_named, say_word};
 use trace_io::lines::{say, say_number};
@@ -37,10 +38,8 @@ fn put_fields(out: &mut [u8], filled: usize, number: u32, values: &[u32]) -> usi
     ensures { Says out.old filled (each (field_texts number) 0 values.now) out.new result }
 {
     let mut at = filled;
-    let mut i = 0;
-    while i < values.len() {
-        at = put_field(out, at, number, i, values[i]);
-        i += 1;
+    for (i, value) in values.iter().enumerate() {
+        at = put_field(out, at, number, i, *value);
     }
     at
 }
@@ -58,10 +57,8 @@ fn put_ids(out: &mut [u8], filled: usize, ids: &[u16]) -> usize
     ensures { Says out.old filled (each ids_texts 0 ids.now) out.new result }
 {
     let mut at = filled;
-    let mut i = 0;
-    while i < ids.len() {
-        at = put_id(out, at, ids[i]);
-        i += 1;
+    for id in ids {
+        at = put_id(out, at, *id);
     }
     at
 }
@@ -86,21 +83,6 @@ pub fn put_octets(out: &mut [u8], filled: usize, octets: &[u8]) -> usize
     trace_io::hexadecimal::say_octets(out, filled, octets, true)
 }
 
-// What follows the fields, by its kind in the table of messages: its name, and the ids or octets.
-fn put_tail(out: &mut [u8], filled: usize, kind: u8, ids: &[u16], octets: &[u8]) -> usize
-    ensures { Says out.old filled (tail_texts kind ids.now octets.now) out.new result }
-{
-    if kind == 0 {
-        return filled;
-    }
-    let a = say(out, filled, b" ");
-    let b = say_named(out, a, explain_words::words::PART, 3, kind as u32 - 1);
-    if kind == 3 {
-        return put_octets(out, b, octets);
-    }
-    put_list(out, b, ids)
-}
-
 // No more than so many.
 fn at_most(n: usize, most: usize) -> usize
     ensures { (result ≡ least n most) × (result ≤ most) }
@@ -109,6 +91,41 @@ fn at_most(n: usize, most: usize) -> usize
         return n;
     }
     most
+}
+
+// The items of a message: its string in the octets read, or its ids.
+fn put_items(out: &mut [u8], filled: usize, items: Items, ids: &[u16], octets: &[u8]) -> usize
+    ensures { Says out.old filled (items_texts items ids.now octets.now) out.new result }
+{
+    match items {
+        Items::Octets { start, .. } => {
+            let from = at_most(start, octets.len());
+            put_octets(out, filled, &octets[from..])
+        }
+        Items::Ids(count) => {
+            let end = at_most(count, ids.len());
+            put_list(out, filled, &ids[..end])
+        }
+    }
+}
+
+// What follows the fields, by its kind in the table of messages: its name, and the items.
+fn put_tail(
+    out: &mut [u8],
+    filled: usize,
+    kind: u8,
+    items: Items,
+    ids: &[u16],
+    octets: &[u8],
+) -> usize
+    ensures { Says out.old filled (tail_texts kind items ids.now octets.now) out.new result }
+{
+    if kind == 0 {
+        return filled;
+    }
+    let a = say(out, filled, b" ");
+    let b = say_named(out, a, explain_words::words::PART, 3, kind as u32 - 1);
+    put_items(out, b, items, ids, octets)
 }
 
 // A message that is not read: its name, or its number where it has none, or nothing where there are no octets.
@@ -126,29 +143,27 @@ fn put_unread(out: &mut [u8], filled: usize, octets: &[u8]) -> usize
     say_number(out, a, number as u64)
 }
 
+// A message that is read of some octets: its name, its fields, and what follows them.
+fn put_read(out: &mut [u8], filled: usize, octets: &[u8], d: Decoded) -> usize
+    ensures { Says out.old filled (read_texts octets.now d) out.new result }
+{
+    let number = d.head.number;
+    let values = d.head.values;
+    let ids = d.ids;
+    let all_values = &values[..];
+    let have = at_most(d.head.have, all_values.len());
+    let a = say_named(out, filled, explain_words::words::MESSAGE, 43, number);
+    let b = put_fields(out, a, number, &all_values[..have]);
+    let kind = codec_table::tail_of(number);
+    put_tail(out, b, kind, d.head.items, &ids, octets)
+}
+
 // A message in words, of any octets.
 pub fn put_message(out: &mut [u8], filled: usize, octets: &[u8]) -> usize
     ensures { Says out.old filled (message_texts octets.now (decoded octets.now (decode_of octets.now))) out.new result }
 {
-    let d = codec_read::decode(octets);
-    if !d.ok {
-        return put_unread(out, filled, octets);
+    match codec_read::decode(octets) {
+        Ok(d) => put_read(out, filled, octets, d),
+        Err(_) => put_unread(out, filled, octets),
     }
-    let number = d.number;
-    let values = d.values;
-    let ids = d.ids;
-    let all_values = &values[..];
-    let all_ids = &ids[..];
-    let have = at_most(d.have, all_values.len());
-    let count = at_most(d.count, all_ids.len());
-    let start = at_most(d.start, octets.len());
-    let a = say_named(out, filled, explain_words::words::MESSAGE, 43, number);
-    let b = put_fields(out, a, number, &all_values[..have]);
-    put_tail(
-        out,
-        b,
-        codec_table::tail_of(number),
-        &all_ids[..count],
-        &octets[start..],
-    )
 }

@@ -12,10 +12,8 @@ use codec_read::decode;
 pub extern "C" fn ladlestorm_raw_message_number(s: &[u8]) -> u32
     ensures { result ≡ answer_of (decode_of s.now) }
 {
-    let d = decode(s);
-    if d.ok {
-        d.number
-    } else {
-        64 + d.refusal as u32
+    match decode(s) {
+        Ok(d) => d.head.number,
+        Err(refusal) => 64 + u32::from(u8::from(refusal)),
     }
 }

@@ -1,8 +1,8 @@
 use Rattle.linecard.proofs.AnswerLaws.{answer_ok, answer_no}
 use Rattle.linecard.proofs.ladlestorm_raw_message_number.Goals as goal
 
-pub returns-then-d : goal.returns-then-d
-returns-then-d c = answer_ok _ _ _ c.decode-d.ensures c.if-d.true
+pub returns-in-Ok : goal.returns-in-Ok
+returns-in-Ok c = answer_ok _ _ _ c.in-Ok.ensures
 
-pub returns-else-d : goal.returns-else-d
-returns-else-d c = answer_no _ _ _ c.decode-d.ensures c.if-d.false
+pub returns-in-Err : goal.returns-in-Err
+returns-in-Err c = rw (c.from-in-Err.ensures, c.from.ensures) (answer_no _ _ _ c.in-Err.ensures)

@@ -3,15 +3,15 @@ use Rattle.explain_message.specs.Messages.{ids_texts}
 use Rattle.trace_io.proofs.Saying.{telling_start, telling_step, telling_end}
 use Rattle.explain_message.proofs.message.put_ids.Goals as goal
 
-pub loop-i-init : goal.loop-i-init
-loop-i-init c = telling_start
+pub loop-id-init : goal.loop-id-init
+loop-id-init c = telling_start
 
-pub loop-i-preserved : goal.loop-i-preserved
+pub loop-id-preserved : goal.loop-id-preserved
 unfolding ids_texts
-loop-i-preserved c = telling_step c.loop-i.invariant c.loop-i-test.true c.put_id-at.auto.out c.put_id-at.ensures
+loop-id-preserved c = telling_step c.loop-id.invariant c.loop-id-test.true c.put_id-at.auto.out c.put_id-at.ensures
 
 pub shape_of-out : goal.shape_of-out
-shape_of-out c = c.loop-i.invariant.size
+shape_of-out c = c.loop-id.invariant.size
 
 pub returns : goal.returns
-returns c = telling_end c.loop-i.invariant c.loop-i-test.false
+returns c = telling_end c.loop-id.invariant c.loop-id-test.false

@@ -1,0 +1,12 @@
+-- `explain_message::message::put_items` meets its contract, by what the items are. Assumes nothing.
+use Rattle.explain_message.specs.Messages.{items_texts}
+use Rattle.explain_message.proofs.PhraseLaws.{all_behind}
+use Rattle.explain_message.proofs.message.put_items.Goals as goal
+
+pub returns-in-Octets : goal.returns-in-Octets
+unfolding items_texts
+returns-in-Octets c = rw (c.in-Octets.is, ← c.at_most-from.ensures.0) (rw all_behind at c.put_octets.ensures)
+
+pub returns-in-Ids : goal.returns-in-Ids
+unfolding items_texts
+returns-in-Ids c = rw (c.in-Ids.is, ← c.at_most-end.ensures.0) c.put_list.ensures

@@ -1,0 +1,8 @@
+-- `explain_message::message::put_read` meets its contract. Assumes nothing.
+use Rattle.explain_message.specs.Messages.{read_texts}
+use Rattle.trace_io.proofs.Saying.{says_then}
+use Rattle.explain_message.proofs.message.put_read.Goals as goal
+
+pub returns : goal.returns
+unfolding read_texts
+returns c = rw (← c.at_most-have.ensures.0, ← c.tail_of-kind.ensures) (says_then c.say_named-a.ensures (says_then c.put_fields-b.ensures c.put_tail.ensures))
