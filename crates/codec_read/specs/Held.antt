@@ -23,6 +23,10 @@ abbrev pub items_held : Bool → ℕ → List ℕ → Items
 items_held true end items = Octets (end - length items) (length items)
 items_held false end items = Ids (length items)
 
+abbrev pub count_of : Items → ℕ
+count_of (Ids count) = count
+count_of (Octets start count) = count
+
 -- a string is last
 unfoldable pub held : List ℕ → Msg → Decoded
 held s m =

@@ -10,7 +10,7 @@ ghost use Rattle.codec_table.specs.Columns.{packed_at, field_of, fields_of, tail
 ghost use Rattle.codec_octets.specs.Bits.{take_bits, after};
 ghost use Rattle.codec_octets.specs.Places.{left_at, bits_at, behind, Bitwise, capped_of, in_bits};
 ghost use Rattle.codec_read.specs.Reading.{TakesField, TakesFields, ReadsItems, listed, body_at, row_at, GoesOn, decode_of};
-ghost use Rattle.codec_read.specs.Held.{decoded, has_ids, Reads};
+ghost use Rattle.codec_read.specs.Held.{count_of, decoded, has_ids, Reads};
 ghost use Rattle.codec_read.specs.Fields.{FieldAt};
 
 use codec_octets::{Got, Refusal, left_at, read_id, read_length, read_number, wide};
@@ -163,6 +163,18 @@ fn take_fields(
 pub enum Items {
     Ids(usize),
     Octets { start: usize, count: usize },
+}
+
+impl Items {
+    // How many ids or octets.
+    pub fn count(self) -> usize
+        ensures { result ≡ count_of self }
+    {
+        match self {
+            Items::Ids(count) => count,
+            Items::Octets { count, .. } => count,
+        }
+    }
 }
 
 // The items read, and the octet behind them.

@@ -10,12 +10,13 @@ use lib.Dec.{leb}
 use borrow.Author.Tests.{leb-true, le-leb}
 use Rattle.codec_table.specs.Codec.{Msg, Outcome, ok, refuse, decode, encode}
 use Rattle.codec_table.proofs.Theorems.{written_is_read}
-use Rattle.codec_read.specs.Held.{no_message, decoded}
+use Rattle.codec_read.specs.Held.{decoded}
 use Rattle.codec_write.specs.Writing.{filled, Encodes}
 use Rattle.codec_read.specs.declared.Decoded.{Decoded}
 use Rattle.codec_octets.specs.Refusals.{refusal_number}
 use Rattle.codec_octets.specs.declared.refusal.Refusal.{Refusal}
-use Rattle.std.specs.Prelude.{Ok, Err}
+use Rattle.std.specs.Prelude.{Result, Ok, Err}
+use Rattle.codec_table.specs.Answers.{outcome_of}
 use Rattle.codec_roundtrip.specs.RoundTrip.{back_by, back, octets_by, ReadBack}
 
 first : {a b : Outcome ℕ} {x y : List ℕ} → ◌≡◌ {A = Outcome ℕ × List ℕ} (a, x) (b, y) → a ≡ b
@@ -48,7 +49,7 @@ module _ (m : Msg) (s s' : List ℕ) (n : ℕ) where
   written_back e = written_is_read m (take n s') (written (encode m) s s' n e).0
 
   -- what is written is read, by any reader that keeps the reader's promise
-  pub round_trip : Encodes m s (Ok n) s' → (d : Decoded) → d ≡ decoded (take n s') (decode (take n s')) → ReadBack m s d s'
+  pub round_trip : Encodes m s (Ok n) s' → (d : Result Decoded Refusal) → outcome_of d ≡ decoded (take n s') (decode (take n s')) → ReadBack m s d s'
   round_trip e d f =
       let w = written (encode m) s s' n e in
       record {
@@ -59,9 +60,9 @@ module _ (m : Msg) (s s' : List ℕ) (n : ℕ) where
         room = second e;
       }
 
-pub no_trip : (m : Msg) (s s' : List ℕ) (r : Refusal) (n : ℕ) → Encodes m s (Err r) s' → n ≡ refusal_number r → (d : Decoded) → d ≡ no_message n → ReadBack m s d s'
+pub no_trip : (m : Msg) (s s' : List ℕ) (r : Refusal) → Encodes m s (Err r) s' → ReadBack m s (Err r) s'
 unfolding decoded
-no_trip m s s' r n e f d k = record { same = k ∙ ap no_message f ∙ ap (λ o. decoded (octets_by (encode m)) o) (go (encode m) e); room = second e }
+no_trip m s s' r e = record { same = ap (λ o. decoded (octets_by (encode m)) o) (go (encode m) e); room = second e }
   where
     go : (o : Outcome (List ℕ)) → ◌≡◌ {A = Outcome ℕ × List ℕ} (refuse (refusal_number r), s') (filled o s) → refuse (refusal_number r) ≡ back_by o m (length s)
     go (refuse k) e = let c = first e in cc

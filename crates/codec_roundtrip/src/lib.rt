@@ -4,7 +4,8 @@
 ghost use Rattle.codec_roundtrip.specs.RoundTrip.{ReadBack};
 ghost use Rattle.codec_size.specs.Sizes.{given};
 
-use codec_read::{Decoded, refused};
+use codec_octets::Refusal;
+use codec_read::Decoded;
 use codec_read_fast::decode;
 use codec_write::encode;
 
@@ -15,11 +16,9 @@ pub fn encode_decode(
     ids: &[u16],
     octets: &[u8],
     out: &mut [u8],
-) -> Decoded
+) -> Result<Decoded, Refusal>
     ensures { ReadBack (given number values.now ids.now octets.now) out.old result out.new }
 {
-    match encode(number, values, ids, octets, out) {
-        Err(r) => refused(r.into()),
-        Ok(n) => decode(&out[..n]),
-    }
+    let n = encode(number, values, ids, octets, out)?;
+    decode(&out[..n])
 }

@@ -23,7 +23,8 @@ use Rattle.codec_table.proofs.CodecLaws.{sound_field, sound_fields}
 use Rattle.codec_octets.specs.Places.{left_at}
 use Rattle.codec_octets.proofs.Bits.{left_within, left_across, octet_left}
 use Rattle.codec_table.proofs.ColumnLaws.{kind_rest, length_fields, field_at}
-use Rattle.codec_size.specs.Sizes.{outcome_of, Below, field_end, fields_end, field_upto, fields_upto}
+use Rattle.codec_table.specs.Answers.{outcome_of}
+use Rattle.codec_size.specs.Sizes.{Below, field_end, fields_end, field_upto, fields_upto}
 use Rattle.codec_size.proofs.LengthLaws.{number_length}
 
 pub number_upto : (v at k : ℕ) → v < 4294967296 → k ≡ size v → k ≤ 4

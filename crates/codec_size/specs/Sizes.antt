@@ -9,11 +9,7 @@ use Rattle.codec_octets.specs.Refusals.{refusal_number}
 use Rattle.codec_octets.specs.declared.refusal.Refusal.{Refusal}
 use Rattle.codec_table.specs.Columns.{tail_at}
 
--- what is answered: how far, or document 01's number of the refusal
-abbrev pub outcome_of : Result ℕ Refusal → Outcome ℕ
-outcome_of (Ok n) = ok n
-outcome_of (Err r) = refuse (refusal_number r)
-
+-- what is answered lies up to a number
 abbrev pub Below : ℕ → Result ℕ Refusal → Type 0
 Below most (Ok n) = n ≤ most
 Below most (Err r) = Unit {0}

@@ -5,7 +5,8 @@ ghost use Rattle.std.specs.Prelude.{◌≡◌, ◌+◌, ◌≤◌, ◌<◌, leng
 ghost use Rattle.codec_octets.specs.Octets.{an_id, a_number, length_octets, fits_item};
 ghost use Rattle.codec_table.specs.Messages.{code, item};
 ghost use Rattle.codec_table.specs.Columns.{packed_at, field_of, fields_of, tail_of, tail_at};
-ghost use Rattle.codec_size.specs.Sizes.{outcome_of, Below, field_upto, fields_upto, tail_upto, body_upto, items_for, given, extent, encode_of, item_of, limit_of, width_of};
+ghost use Rattle.codec_table.specs.Answers.{outcome_of};
+ghost use Rattle.codec_size.specs.Sizes.{Below, field_upto, fields_upto, tail_upto, body_upto, items_for, given, extent, encode_of, item_of, limit_of, width_of};
 
 use codec_octets::{Refusal, octets_of, wide};
 use codec_table::{

@@ -21,7 +21,8 @@ use Rattle.codec_table.proofs.CodecLaws.{fields_bound, tail_in}
 use Rattle.codec_octets.specs.Places.{left_at, placed, Puts, Clear}
 use Rattle.codec_table.specs.Columns.{fields_of, tail_of, tail_at, count_at, form_at}
 use Rattle.codec_table.proofs.ColumnLaws.{known}
-use Rattle.codec_size.specs.Sizes.{outcome_of, fields_end, items_for, given, extent, headed, at_most, body_upto}
+use Rattle.codec_table.specs.Answers.{outcome_of}
+use Rattle.codec_size.specs.Sizes.{fields_end, items_for, given, extent, headed, at_most, body_upto}
 use Rattle.codec_size.proofs.TailSizes.{short_fits}
 use Rattle.codec_size.proofs.FieldEnds.{sound_these}
 use Rattle.codec_size.proofs.MessageSizes.{whole_by, answer, said, length_whole, some_octets, msg, encode_uncovered, few_fields, too_few, too_many, encode_said, size_is}

@@ -6,7 +6,8 @@ use Rattle.codec_table.specs.Codec.{left_after, fits_field, put_field, put_field
 use Rattle.codec_octets.specs.Bits.{put_bits}
 use Rattle.codec_octets.specs.Places.{left_at, placed, Clear}
 use Rattle.codec_octets.specs.declared.refusal.Refusal.{Refusal}
-use Rattle.codec_size.specs.Sizes.{outcome_of, field_end, fields_end, headed}
+use Rattle.codec_table.specs.Answers.{outcome_of}
+use Rattle.codec_size.specs.Sizes.{field_end, fields_end, headed}
 
 -- octets laid at octet i, up to next
 pub record Lays (s : List ℕ) (i : ℕ) (os s' : List ℕ) (next : ℕ) : Type 0 where

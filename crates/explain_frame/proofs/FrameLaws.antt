@@ -11,7 +11,12 @@ use Rattle.trace_frames.specs.Frames.{Front, over, frame, refused, front, size_o
 use Rattle.trace_frames.specs.declared.Kind.{Kind}
 use Rattle.trace_frames.specs.declared.Kind.TheVariants.{Open, Loss, Message}
 use Rattle.codec_read.specs.Reading.{decode_of}
-use Rattle.codec_stop.specs.Stops.{refusal_of}
+use Rattle.std.specs.Prelude.{Option, Some, None}
+use Rattle.codec_octets.specs.declared.refusal.Refusal.{Refusal}
+use Rattle.codec_octets.specs.declared.refusal.Refusal.TheVariants.{WrongLength, BadEncoding, NotServed, TooLong, NoRoom}
+use Rattle.codec_octets.specs.Refusals.{refusal_number}
+use Rattle.codec_stop.specs.Stops.{refusal_of, told}
+use Rattle.codec_stop.proofs.StopLaws.{some_refusal}
 use Rattle.codec_stop.specs.declared.Stop.{Stop}
 use Rattle.codec_stop.specs.declared.Part.TheVariants.{End}
 use Rattle.codec_stop.specs.declared.Why.TheVariants.{Read}
@@ -24,8 +29,9 @@ use Rattle.explain_frame.specs.Frames.{event_texts, octets_line, refused_texts, 
 -- texts that do not depend on the stop
 pub tells_plain : (os : List ℕ) (texts : Stop → List (List ℕ)) {o x : List ℕ} {f r : ℕ} {ts : List (List ℕ)} → Says o f ts x r → ((s : Stop) → ts ≡ texts s) → Tells os texts o f x r
 tells_plain os texts h e =
-    let s : Stop = record { refusal = refusal_of (decode_of os); bit = 0; part = End; why = Read } in
-    record { stop = s; refusal = refl; says = says_as h (e s) }
+    let r = some_refusal os in
+    let s : Stop = record { refusal = r.0; bit = 0; part = End; why = Read } in
+    record { stop = s; refusal = r.1; says = says_as h (e s) }
 
 -- the same texts, told otherwise; behind others; and with others behind them
 pub tells_as : {os : List ℕ} {a b : Stop → List (List ℕ)} {o x : List ℕ} {f r : ℕ} → Tells os a o f x r → ((s : Stop) → a s ≡ b s) → Tells os b o f x r
@@ -72,13 +78,20 @@ module _ (reply : ℕ) (os : List ℕ) where
   unfolding wrong_texts
   wrong_stray e k j h s = rw (eq-eqb reply 2 e, h) refl
 
-pub stray_read : (os : List ℕ) (refusal : ℕ) → refusal ≡ refusal_of (decode_of os) → refusal ≡ 0 → [] ≡ stray_texts Message os
+pub stray_read : (os : List ℕ) (r : Option Refusal) → told r ≡ refusal_of (decode_of os) → r ≡ None → [] ≡ stray_texts Message os
 unfolding stray_texts
-stray_read os refusal e h = rw (eq-eqb (refusal_of (decode_of os)) 0 (sym e ∙ h)) refl
+stray_read os r e h = rw (eq-eqb (refusal_of (decode_of os)) 0 (sym e ∙ ap told h)) refl
 
-pub stray_unread : (os : List ℕ) (refusal : ℕ) → refusal ≡ refusal_of (decode_of os) → (refusal ≡ 0 → ⊥) → octets_line os ≡ stray_texts Message os
+some_number : (x : Refusal) → refusal_number x ≡ 0 → ⊥
+some_number WrongLength e = omega arith
+some_number BadEncoding e = omega arith
+some_number NotServed e = omega arith
+some_number TooLong e = omega arith
+some_number NoRoom e = omega arith
+
+pub stray_unread : (os : List ℕ) (r : Option Refusal) (x : Refusal) → told r ≡ refusal_of (decode_of os) → r ≡ Some x → octets_line os ≡ stray_texts Message os
 unfolding stray_texts
-stray_unread os refusal e h = rw (ne_eqb (refusal_of (decode_of os)) 0 (λ z. h (e ∙ z))) refl
+stray_unread os r x e h = rw (ne_eqb (refusal_of (decode_of os)) 0 (λ z. some_number x (sym (ap told h) ∙ e ∙ z))) refl
 
 -- what stands at the front
 kind_by_lem : (k : Kind) → kind_by (kind_number k) ≡ k

@@ -79,10 +79,10 @@ fn put_unread(out: &mut [u8], filled: usize, reply: u64, kind: Kind, message: &[
         Kind::Loss => filled,
         Kind::Message => {
             let s = codec_stop::where_stopped(message);
-            if s.refusal == 0 {
-                return filled;
+            match s.refusal {
+                None => filled,
+                Some(_) => put_octets_line(out, filled, message),
             }
-            put_octets_line(out, filled, message)
         }
     }
 }

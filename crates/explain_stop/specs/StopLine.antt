@@ -2,7 +2,7 @@
 use Rattle.std.specs.Prelude.{ℕ, ◌-◌, ◌/◌, ◌%◌, ◌≡◌, cond, List, [], ◌∷◌, ◌++◌, eqb, length, get_or}
 use Rattle.codec_table.specs.Columns.{tail_at}
 use Rattle.codec_read.specs.Reading.{decode_of}
-use Rattle.codec_stop.specs.Stops.{refusal_of}
+use Rattle.codec_stop.specs.Stops.{refusal_of, told}
 use Rattle.codec_stop.specs.declared.Stop.{Stop}
 use Rattle.codec_stop.specs.declared.Part.{Part}
 use Rattle.codec_stop.specs.declared.Part.TheVariants.{Number, Field, Items, End}
@@ -58,5 +58,5 @@ stop_texts os s =
 -- texts that may tell of a stop are said, for a stop with the refusal that decoding these octets gives
 pub record Tells (os : List ℕ) (texts : Stop → List (List ℕ)) (o : List ℕ) (f : ℕ) (x : List ℕ) (r : ℕ) : Type 0 where
   pub stop : Stop
-  pub refusal : stop.refusal ≡ refusal_of (decode_of os)
+  pub refusal : told stop.refusal ≡ refusal_of (decode_of os)
   pub says : Says o f (texts stop) x r

@@ -14,6 +14,6 @@ pub extern "C" fn ladlestorm_raw_message_number(s: &[u8]) -> u32
 {
     match decode(s) {
         Ok(d) => d.head.number,
-        Err(refusal) => 64 + u32::from(u8::from(refusal)),
+        Err(refusal) => 64 + u8::from(refusal) as u32,
     }
 }

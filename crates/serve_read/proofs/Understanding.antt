@@ -20,7 +20,10 @@ use Rattle.codec_table.specs.Named.{fields, formed, heard}
 use Rattle.codec_table.proofs.CodecLaws.{taken}
 use Rattle.codec_table.proofs.NamedLaws.{ranges, heard_read as heard_decoded, read_named, heard_formed, refused_heard}
 use Rattle.codec_table.proofs.Refusals.{refusal, refusals, number_read}
-use Rattle.codec_read.specs.Held.{padded, no_message, decoded, head_of, has_ids, kept, Reads}
+use Rattle.std.specs.Prelude.{Ok, Err}
+use Rattle.codec_octets.specs.declared.refusal.Refusal.{Refusal}
+use Rattle.codec_octets.specs.Refusals.{refusal_number}
+use Rattle.codec_read.specs.Held.{padded, is_string, items_held, count_of, held, decoded, head_of, has_ids, kept, Reads}
 use Rattle.codec_read.specs.declared.Decoded.{Decoded}
 use Rattle.codec_read.specs.declared.Head.{Head}
 use Rattle.codec_read_fast.specs.declared.Short.{Short}
@@ -184,7 +187,7 @@ number_is (o ∷ os) x e = number_read o os x e
 
 -- the ids that the code lists are those of the message read, where it has some
 Lists : Decoded → List ℕ → Type 0
-Lists dec listed = has_ids (tail_at dec.number) ≡ true → take dec.count listed ≡ take dec.count dec.ids
+Lists dec listed = has_ids (tail_at dec.head.number) ≡ true → take (count_of dec.head.items) listed ≡ take (count_of dec.head.items) dec.ids
 
 no_string : (kind : ℕ) → has_ids kind ≡ true → eqb kind 3 ≡ false
 no_string kind h = go (eqb kind 0) (eqb kind 3) h
@@ -194,18 +197,25 @@ no_string kind h = go (eqb kind 0) (eqb kind 3) h
     go true true e = absurd (false≢true e)
     go false true e = absurd (false≢true e)
 
+count_held : (octets : Bool) (end : ℕ) (items : List ℕ) → count_of (items_held octets end items) ≡ length items
+count_held true end items = refl
+count_held false end items = refl
+
 module _ (os : List ℕ) (x : Msg) (listed : List ℕ) where
-  decoded_ids : has_ids (tail_at x.number) ≡ true → (decoded os (ok x)).ids ≡ padded 64 x.items
-  unfolding decoded
+  decoded_ids : has_ids (tail_at x.number) ≡ true → (held os x).ids ≡ padded 64 x.items
+  unfolding held
   decoded_ids h = ap (λ (b : Bool). padded 64 (cond b [] x.items)) (no_string (tail_at x.number) h)
 
-  its_ids : Lists (decoded os (ok x)) listed → ItsIds x (take (length x.items) listed)
-  unfolding Lists ItsIds decoded
-  its_ids l h = l h ∙ ap (take (length x.items)) (decoded_ids h) ∙ first_listed x.items
+  its_ids : Lists (held os x) listed → ItsIds x (take (count_of (held os x).head.items) listed)
+  unfolding Lists ItsIds held
+  its_ids l h =
+      l h ∙ ap (take (count_of (items_held (is_string x.number) (length os) x.items))) (decoded_ids h)
+      ∙ ap (λ n. take n (padded 64 x.items)) (count_held (is_string x.number) (length os) x.items)
+      ∙ first_listed x.items
 
-  kept_lists : (before : List ℕ) → listed ≡ kept x before → Lists (decoded os (ok x)) listed
-  unfolding Lists decoded kept
-  kept_lists before e h = ap (take (length x.items)) (e ∙ rw h (sym (decoded_ids h)))
+  kept_lists : (before : List ℕ) → listed ≡ kept x before → Lists (held os x) listed
+  unfolding Lists held kept
+  kept_lists before e h = ap (take (count_of (items_held (is_string x.number) (length os) x.items))) (e ∙ rw h (sym (decoded_ids h)))
 
 -- ---- what is read is served
 served_way : (w : Way) → way_served w ≡ true → goes_up w ≡ true
@@ -239,38 +249,38 @@ heard_understood os m h s =
 abbrev pub Asks : (os : List ℕ) (r : Message) → Type 0
 Asks os r = (new : ℕ) (d : Domain) (p room : ℕ) → answers new d p (understood os) room ≡ ends d room (act new d p r)
 
-module _ (os : List ℕ) (y : Bytes os) (dec : Decoded) (e : dec ≡ decoded os (decode os)) (k : dec.ok ≡ true) (s : is_served dec.number ≡ true) where
-  message_read : {G : Type 0} → ((x : Msg) → decode os ≡ ok x → dec ≡ decoded os (ok x) → G) → G
-  unfolding decoded no_message
+module _ (os : List ℕ) (y : Bytes os) (dec : Decoded) (e : ok dec ≡ decoded os (decode os)) (s : is_served dec.head.number ≡ true) where
+  message_read : {G : Type 0} → ((x : Msg) → decode os ≡ ok x → dec ≡ held os x → G) → G
+  unfolding decoded
   message_read {G} g = go (decode os) refl
     where
       go : (o : Outcome Msg) → decode os ≡ o → G
-      go (ok x) f = g x f (e ∙ ap (decoded os) f)
-      go (refuse n) f = absurd (false≢true (sym (ap (λ (z : Decoded). z.ok) (e ∙ ap (decoded os) f)) ∙ k))
+      go (ok x) f = g x f (cc (e ∙ ap (decoded os) f))
+      go (refuse n) f = absurd (cc (e ∙ ap (decoded os) f))
 
-  module _ (x : Msg) (f : decode os ≡ ok x) (is : dec ≡ decoded os (ok x)) where
+  module _ (x : Msg) (f : decode os ≡ ok x) (is : dec ≡ held os x) where
     served_number : is_served x.number ≡ true
-    unfolding decoded
-    served_number = ap (λ (z : Decoded). is_served z.number) (sym is) ∙ s
+    unfolding held
+    served_number = ap (λ (z : Decoded). is_served z.head.number) (sym is) ∙ s
 
     heard_read : understood os ≡ read_as os (heard os)
     heard_read = served_understood os x f (ap is_served (sym (number_is os x f)) ∙ served_number)
 
-  read_asks : (listed : List ℕ) → Lists dec listed → Asks os (asked_for dec.number (value_in dec.values) (take dec.count listed))
-  unfolding answers read_as decoded
+  read_asks : (listed : List ℕ) → Lists dec listed → Asks os (asked_for dec.head.number (value_in dec.head.values) (take (count_of dec.head.items) listed))
+  unfolding answers read_as held
   read_asks listed l new d p room =
       message_read λ x f is.
       read_named os y x f λ m hears same.
-      let whole : dec ≡ decoded os (ok (fields m)) = is ∙ ap (λ (z : Msg). decoded os (ok z)) (sym same) in
+      let whole : dec ≡ held os (fields m) = is ∙ ap (held os) (sym same) in
       let ids = its_ids os (fields m) listed (subst (λ (z : Decoded). Lists z listed) whole l) in
       rw (heard_read x f is, hears, whole)
       (ap (λ (z : Effect Domain). ends d room z)
       (sym (request_act new d p _ m ids (heard_formed os y m hears) (ap (λ (z : Msg). is_served z.number) same ∙ served_number x f is))))
 
-  not_few : NoneRead few_ids os → few_ids dec.number ≡ false
-  unfolding decoded
+  not_few : NoneRead few_ids os → few_ids dec.head.number ≡ false
+  unfolding held
   not_few none = message_read λ x f is.
-      let number : dec.number ≡ x.number = ap (λ (z : Decoded). z.number) is in
+      let number : dec.head.number ≡ x.number = ap (λ (z : Decoded). z.head.number) is in
       rw number (go x f (served_number x f is) (few_ids x.number) refl)
     where
       go : (x : Msg) → decode os ≡ ok x → is_served x.number ≡ true → (b : Bool) → few_ids x.number ≡ b → b ≡ false
@@ -278,43 +288,41 @@ module _ (os : List ℕ) (y : Bytes os) (dec : Decoded) (e : dec ≡ decoded os 
       go x f n false h = refl
 
   -- what is read before is none of these
-  list_understood : NoneRead few_ids os → (u : Understood) → Asked (head_of dec) u → (listed : List ℕ) → Lists dec listed → Understands os u listed
-  unfolding asks requested asked_for value_in head_of
+  list_understood : NoneRead few_ids os → (u : Understood) → Asked dec.head u → (listed : List ℕ) → Lists dec listed → Understands os u listed
+  unfolding asks requested asked_for value_in
   list_understood none u a listed l new d p room =
       read_asks listed l new d p room
       ∙ rw (a.done, a.number_is, a.first_is, a.second_is, a.count_is, not_few none) refl
 
 -- the long way
-module _ (os : List ℕ) (h : Head) (before listed : List ℕ) (w : Reads os (decode os) before listed h) (u : Understood) where
-  head_is : (o : Outcome Msg) → decode os ≡ o → h ≡ head_of (decoded os o)
-  head_is o f = w.head ∙ ap (λ (o : Outcome Msg). head_of (decoded os o)) f
-
-  pub head_asks : NoneRead few_ids os → Asked h u → Bytes os → h.ok ≡ true → is_served (number_in os) ≡ true → Understands os u listed
-  unfolding decoded no_message head_of
-  head_asks none a y k s = go (decode os) refl
+module _ (os before listed : List ℕ) (u : Understood) where
+  pub head_asks : (h : Head) → Reads os (decode os) before listed (Ok h) → NoneRead few_ids os → Asked h u → Bytes os → is_served (number_in os) ≡ true → Understands os u listed
+  unfolding decoded held
+  head_asks h w none a y s = go (decode os) refl
     where
       go : (o : Outcome Msg) → decode os ≡ o → Understands os u listed
       go (ok x) f =
-          list_understood os y (decoded os (ok x)) (ap (decoded os) (sym f)) refl (ap is_served (number_is os x f) ∙ s) none u
-          (subst (λ (z : Head). Asked z u) (head_is (ok x) f) a) listed (kept_lists os x listed before (w.list x f))
-      go (refuse n) f = absurd (false≢true (sym (ap (λ (z : Head). z.ok) (head_is (refuse n) f)) ∙ k))
+          let same : h ≡ (held os x).head = cc (w.head ∙ ap (λ (o : Outcome Msg). head_of (decoded os o)) f) in
+          list_understood os y (held os x) (ap (decoded os) (sym f)) (ap is_served (number_is os x f) ∙ s) none u
+          (subst (λ (z : Head). Asked z u) same a) listed (kept_lists os x listed before (w.list x f))
+      go (refuse n) f = absurd (cc (w.head ∙ ap (λ (o : Outcome Msg). head_of (decoded os o)) f))
 
-  pub codec_asks : understood os ≡ read_as os (heard os) → h.ok ≡ false → reply_number u.reply ≡ reply_for h.refusal → Understands os u listed
-  unfolding decoded no_message head_of read_as
-  codec_asks i k r = go (decode os) refl
+  pub codec_asks : (r : Refusal) → Reads os (decode os) before listed (Err r) → understood os ≡ read_as os (heard os) → reply_number u.reply ≡ reply_for (refusal_number r) → Understands os u listed
+  unfolding decoded read_as
+  codec_asks r w i k = go (decode os) refl
     where
       go : (o : Outcome Msg) → decode os ≡ o → Understands os u listed
-      go (ok x) f = absurd (false≢true (sym k ∙ ap (λ (z : Head). z.ok) (head_is (ok x) f)))
+      go (ok x) f = absurd (cc (w.head ∙ ap (λ (o : Outcome Msg). head_of (decoded os o)) f))
       go (refuse n) f =
-          let z : h.refusal ≡ n = ap (λ (z : Head). z.refusal) (head_is (refuse n) f) in
-          refuses_asks os n u listed (i ∙ ap (read_as os) (refused_heard os n f)) (r ∙ ap reply_for z ∙ reply_for_is n (refusals os n f)) (refusal_some n (refusals os n f))
+          let z : refusal_number r ≡ n = cc (w.head ∙ ap (λ (o : Outcome Msg). head_of (decoded os o)) f) in
+          refuses_asks os n u listed (i ∙ ap (read_as os) (refused_heard os n f)) (k ∙ ap reply_for z ∙ reply_for_is n (refusals os n f)) (refusal_some n (refusals os n f))
 
 -- a message with a list
 pub list_asks : (os : List ℕ) → Bytes os → NoneRead few_ids os → (u : Understood) (listed : List ℕ) (l : Listing) → Listed os l listed → l.first < 65536 → l.second < 65536
     → Requests l.number l.first l.second l.count u → Understands os u listed
-unfolding in_list head_of Lists
+unfolding in_list Lists
 list_asks os y none u listed l h a b r =
-    list_understood os y (in_list l listed) h.same refl h.served none u
+    list_understood os y (in_list l listed) h.same h.served none u
     (rw (← small l.first (omega arith), ← small l.second (omega arith)) at r) listed
     (λ k. sym (ap (λ n. take n (padded 64 (take l.count listed))) (sym h.stored) ∙ first_listed (take l.count listed)))
 
@@ -331,7 +339,7 @@ module _ (new : ℕ) (d : Domain) (p room : ℕ) (os : List ℕ) (u : Understood
   listed_asks h = rw h refl
 
 -- ---- a message of a few ids, which has no list
-few_lists : (dec : Decoded) → dec.count ≡ 0 → Lists dec []
+few_lists : (dec : Decoded) → count_of dec.head.items ≡ 0 → Lists dec []
 unfolding Lists
 few_lists dec e h = rw e refl
 
@@ -346,7 +354,7 @@ module _ (os : List ℕ) (y : Bytes os) (w : Wish) (h : Wishes os w) (a : w.user
   pub token_asks : Asks os (token_request w.number w.user w.token w.more)
   unfolding in_words of_values asked_for few_request few_ids
   token_asks new d p room =
-      read_asks os y (in_words w) h.same refl h.served [] (few_lists (in_words w) refl) new d p room
+      read_asks os y (in_words w) h.same h.served [] (few_lists (in_words w) refl) new d p room
       ∙ rw h.few (ap (λ m. ends d room (act new d p m)) (in_order (eqb w.number 35)))
 
 module _ (os : List ℕ) (y : Bytes os) (q : Short) (h : Shortly os q) (a : q.first < 65536) (b : q.second < 65536) where
@@ -365,5 +373,5 @@ module _ (os : List ℕ) (y : Bytes os) (q : Short) (h : Shortly os q) (a : q.fi
   pub short_asks : Asks os (brief_request q.number q.first q.second)
   unfolding in_full of_values asked_for few_request few_ids value_in
   short_asks new d p room =
-      read_asks os y (in_full q) h.same refl h.served [] (few_lists (in_full q) refl) new d p room
+      read_asks os y (in_full q) h.same h.served [] (few_lists (in_full q) refl) new d p room
       ∙ rw (no_token, h.few, small q.first (omega arith), small q.second (omega arith)) refl

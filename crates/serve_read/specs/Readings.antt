@@ -2,6 +2,7 @@
 use Rattle.std.specs.Prelude.{◌≡◌, ℕ, ◌%◌, List, eqb, take, get_or, if◌then◌else◌}
 use Rattle.codec_table.specs.Named.{Message}
 use Rattle.codec_read.specs.declared.Head.{Head}
+use Rattle.codec_read.specs.Held.{count_of}
 use Rattle.domain.specs.Numbers.{reply_number}
 use Rattle.domain.specs.Tables.{Domain}
 use Rattle.domain.specs.Events.{Outcome, act, answers, ends, sends, complaint}
@@ -34,4 +35,4 @@ pub record Requests (number first second count : ℕ) (u : Understood) : Type 0 
   pub count_is : u.count ≡ count
 
 abbrev pub Asked : Head → Understood → Type 0
-Asked h u = Requests h.number (get_or h.values 0 0 % 65536) (get_or h.values 1 0 % 65536) h.count u
+Asked h u = Requests h.number (get_or h.values 0 0 % 65536) (get_or h.values 1 0 % 65536) (count_of h.items) u

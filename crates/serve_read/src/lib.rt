@@ -2,10 +2,12 @@
 #![tactic(auto)]
 
 ghost use Rattle.std.specs.Prelude.{◌≡◌};
+ghost use Rattle.codec_octets.specs.Refusals.{refusal_number};
 ghost use Rattle.domain.specs.Numbers.{reply_number};
 ghost use Rattle.codec_read_fast.specs.Shortly.{few_ids, NoneRead};
 ghost use Rattle.serve_read.specs.Readings.{reply_for, Understands, Requests, Asked};
 
+use codec_octets::Refusal;
 use codec_read::Head;
 use domain::numbers::Reply;
 
@@ -50,22 +52,21 @@ fn understand_all(octets: &[u8], listed: &mut [u16; 64]) -> Understood
     if !codec_table::is_served(way) {
         return refused(Reply::NotServed);
     }
-    let h = codec_read::read_into(octets, listed);
-    if h.ok {
-        return asked(h);
+    match codec_read::read_into(octets, listed) {
+        Ok(h) => asked(h),
+        Err(refusal) => refused(reply_of(refusal)),
     }
-    refused(reply_of(h.refusal))
 }
 
 // The reply of a codec's refusal.
-fn reply_of(refusal: u8) -> Reply
-    ensures { reply_number result ≡ reply_for refusal }
+fn reply_of(refusal: Refusal) -> Reply
+    ensures { reply_number result ≡ reply_for (refusal_number refusal) }
 {
     match refusal {
-        4 => Reply::WrongLength,
-        5 => Reply::BadEncoding,
-        7 => Reply::NotServed,
-        _ => Reply::TooLong,
+        Refusal::WrongLength => Reply::WrongLength,
+        Refusal::BadEncoding => Reply::BadEncoding,
+        Refusal::NotServed => Reply::NotServed,
+        Refusal::TooLong | Refusal::NoRoom => Reply::TooLong,
     }
 }
 
@@ -103,6 +104,6 @@ fn asked(h: Head) -> Understood
         h.number,
         (values[0] % 65536) as u16,
         (values[1] % 65536) as u16,
-        h.count,
+        h.items.count(),
     )
 }

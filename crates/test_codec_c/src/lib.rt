@@ -45,17 +45,17 @@ pub extern "C" fn ladlestorm_test_read_any(
     values: &mut [u32; 6],
     list: &mut [u16; 64],
 ) -> u32 {
-    let h = codec_read::read_into(s, list);
-    let read = h.values;
-    *values = [
-        h.number,
-        read[0],
-        read[1],
-        read[2],
-        read[3],
-        h.refusal as u32,
-    ];
-    (h.count % 65536) as u32
+    match codec_read::read_into(s, list) {
+        Ok(h) => {
+            let read = h.values;
+            *values = [h.number, read[0], read[1], read[2], read[3], 0];
+            (h.items.count() % 65536) as u32
+        }
+        Err(refusal) => {
+            *values = [0, 0, 0, 0, 0, u8::from(refusal) as u32];
+            0
+        }
+    }
 }
 
 // A confirm of a token's request, the short way: how many octets; 0 where it is not written so.

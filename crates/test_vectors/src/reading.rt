@@ -2,7 +2,7 @@
 ghost use Rattle.std.specs.Prelude.{◌≤◌};
 
 use crate::{line, room};
-use codec_read::Decoded;
+use codec_read::{Head, Items};
 use trace_io::lines::{say, say_number};
 
 // Whether the message is written as these octets, with those behind them left as they were.
@@ -21,78 +21,87 @@ fn is_written_again(
 }
 
 // The items behind the values: ` : id ..` where they are ids or none, ` # octets` in hexadecimal where they are a string.
-fn put_items(text: &mut [u8], at: usize, is_string: bool, ids: &[u16], octets: &[u8]) -> usize {
-    if is_string {
-        let next = say(text, at, b" # ");
-        return line::put_octets(text, next, octets);
+fn put_items(text: &mut [u8], at: usize, items: Items, ids: &[u16], octets: &[u8]) -> usize {
+    match items {
+        Items::Octets { .. } => {
+            let next = say(text, at, b" # ");
+            line::put_octets(text, next, octets)
+        }
+        Items::Ids(_) => {
+            let next = say(text, at, b" :");
+            line::put_numbers(text, next, &[], ids, ids.len())
+        }
     }
-    let next = say(text, at, b" :");
-    line::put_numbers(text, next, &[], ids, ids.len())
 }
 
 // `number value ..`, the items, and the mark: that the message is written again as it was.
 fn put_message(
     text: &mut [u8],
-    d: Decoded,
+    head: Head,
     values: &[u32],
     ids: &[u16],
     octets: &[u8],
     message: &[u8],
 ) -> usize {
-    let is_same = is_written_again(d.number, values, ids, octets, message);
-    let head = say_number(text, 0, d.number as u64);
-    let next = line::put_numbers(text, head, values, &[], values.len());
-    let end = put_items(text, next, d.octets, ids, octets);
+    let is_same = is_written_again(head.number, values, ids, octets, message);
+    let start = say_number(text, 0, head.number as u64);
+    let next = line::put_numbers(text, start, values, &[], values.len());
+    let end = put_items(text, next, head.items, ids, octets);
     line::put_mark(text, end, is_same)
 }
 
-// So many where a message has them, or none where there are fewer.
-fn upto(is_there: bool, n: usize, most: usize) -> usize
+// So many, or none where there are fewer.
+fn upto(n: usize, most: usize) -> usize
     ensures { result ≤ most }
 {
-    if is_there {
-        if n <= most {
-            return n;
-        }
-    }
-    0
+    if n <= most { n } else { 0 }
 }
 
 // The values of a message.
-fn values_of<'a>(d: Decoded, values: &'a [u32]) -> &'a [u32] {
-    let n = upto(true, d.have, values.len());
-    &values[0..n]
+fn values_of<'a>(head: Head, values: &'a [u32]) -> &'a [u32] {
+    let n = upto(head.have, values.len());
+    &values[..n]
 }
 
 // The ids of a message; none where it has a string.
-fn ids_of<'a>(d: Decoded, ids: &'a [u16]) -> &'a [u16] {
-    let n = upto(!d.octets, d.count, ids.len());
-    &ids[0..n]
+fn ids_of<'a>(items: Items, ids: &'a [u16]) -> &'a [u16] {
+    match items {
+        Items::Octets { .. } => &ids[..0],
+        Items::Ids(count) => {
+            let n = upto(count, ids.len());
+            &ids[..n]
+        }
+    }
 }
 
 // The string of a message, which lies in the octets read; none where it has ids.
-fn string_of<'a>(d: Decoded, message: &'a [u8]) -> &'a [u8] {
-    let start = upto(d.octets, d.start, message.len());
-    let n = upto(d.octets, d.count, message.len() - start);
-    let end = start + n;
-    &message[start..end]
+fn string_of<'a>(items: Items, message: &'a [u8]) -> &'a [u8] {
+    match items {
+        Items::Ids(_) => &message[..0],
+        Items::Octets { start, count } => {
+            let from = upto(start, message.len());
+            let end = from + upto(count, message.len() - from);
+            &message[from..end]
+        }
+    }
 }
 
 // The line of octets to be read.
 pub fn answer(message: &[u8], text: &mut [u8]) -> usize {
-    let d = codec_read_fast::decode(message);
-    if d.ok {
-        let values = d.values;
-        let ids = d.ids;
-        put_message(
-            text,
-            d,
-            values_of(d, &values),
-            ids_of(d, &ids),
-            string_of(d, message),
-            message,
-        )
-    } else {
-        line::put_refusal(text, d.refusal)
+    match codec_read_fast::decode(message) {
+        Err(refusal) => line::put_refusal(text, refusal.into()),
+        Ok(d) => {
+            let head = d.head;
+            let values = head.values;
+            let ids = d.ids;
+            put_message(
+                text,
+                head,
+                values_of(head, &values),
+                ids_of(head.items, &ids),
+                string_of(head.items, message),
+                message,
+            )
+        }
     }
 }

@@ -1,6 +1,6 @@
 use mathlib.Core.Path.{ap, ◌∙◌}
 use Rattle.codec_table.proofs.ColumnLaws.{tail_at_lem}
-use Rattle.codec_size.specs.Sizes.{outcome_of}
+use Rattle.codec_table.specs.Answers.{outcome_of}
 use Rattle.codec_size.proofs.MessageSizes.{body_not, body_tail_not, body_fine, body_over}
 use Rattle.std.proofs.lemmas.Grind.{common_steps}
 use native.Mathlib.Omega.{arith}

@@ -1,5 +1,5 @@
 use Rattle.codec_write.proofs.MessageLaws.{filled_short, filled_not, filled_whole}
-use Rattle.codec_size.specs.Sizes.{outcome_of}
+use Rattle.codec_table.specs.Answers.{outcome_of}
 use lib.Seq.{length-take-le}
 use mathlib.Core.Path.{sym, ap, ◌∙◌}
 use Rattle.codec_table.specs.Codec.{ok}

@@ -5,4 +5,4 @@ pub returns-in-Ok : goal.returns-in-Ok
 returns-in-Ok c = answer_ok _ _ _ c.in-Ok.ensures
 
 pub returns-in-Err : goal.returns-in-Err
-returns-in-Err c = rw (c.from-in-Err.ensures, c.from.ensures) (answer_no _ _ _ c.in-Err.ensures)
+returns-in-Err c = rw c.from.ensures (answer_no _ _ _ c.in-Err.ensures)

@@ -29,18 +29,18 @@ pub returns-then-not-is_served : goal.returns-then-not-is_served
 unfolding number_in
 returns-then-not-is_served c none = refuses_asks c.args.octets.now 7 _ _ (unserved_understood c.args.octets.now (search rules) (search rules) c.if-number-gt42.false (sym (c.goes_up.ensures ∙ up_at _ _ c.way_of-way.ensures) ∙ c.if-not-goes_up.false) (sym (c.is_served.ensures ∙ served_at _ _ c.way_of-way.ensures) ∙ c.if-not-is_served.true)) (ap reply_number c.refused-then-not-is_served.ensures) refl
 
-pub returns-then-h : goal.returns-then-h
+pub returns-in-Ok : goal.returns-in-Ok
 unfolding number_in
-returns-then-h c none =
+returns-in-Ok c none =
     let os = c.args.octets.now in
     let s = sym (c.is_served.ensures ∙ served_at _ _ c.way_of-way.ensures) ∙ c.if-not-is_served.false in
-    head_asks os _ _ _ c.read_into-h.ensures _ none c.asked.ensures (bytes_at os (λ i. omega (arith, c.shared_slice_known-2-1.given i))) c.if-h.true s
+    head_asks os _ _ _ _ c.in-Ok.ensures none c.asked.ensures (bytes_at os (λ i. omega (arith, c.shared_slice_known-2-1.given i))) s
 
-pub returns : goal.returns
+pub returns-in-Err : goal.returns-in-Err
 unfolding number_in
-returns c none =
+returns-in-Err c none =
     let os = c.args.octets.now in
     let s = sym (c.is_served.ensures ∙ served_at _ _ c.way_of-way.ensures) ∙ c.if-not-is_served.false in
     let up = sym (c.goes_up.ensures ∙ up_at _ _ c.way_of-way.ensures) ∙ c.if-not-goes_up.false in
     let i = read_understood os (search rules) (search rules) c.if-number-gt42.false up s in
-    codec_asks os _ _ _ c.read_into-h.ensures _ i c.if-h.false (ap reply_number c.refused-2.ensures ∙ c.reply_of.ensures)
+    codec_asks os _ _ _ _ c.in-Err.ensures i (ap reply_number c.refused-in-Err.ensures ∙ c.reply_of.ensures)
