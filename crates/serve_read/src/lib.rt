@@ -59,6 +59,7 @@ fn understand_all(octets: &[u8], listed: &mut [u16; 64]) -> Understood
 }
 
 // The reply of a codec's refusal.
+#[tactic(auto, unfolding(crate::specs::Readings::reply_for))]
 fn reply_of(refusal: Refusal) -> Reply
     ensures { reply_number result ≡ reply_for (refusal_number refusal) }
 {
