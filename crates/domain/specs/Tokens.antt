@@ -1,9 +1,8 @@
 -- One token: what a request by the user at place u makes of its state, and its status for that user. Users are named by their places.
-use Rattle.std.specs.Prelude.{ℕ, Bool, true, false, eqb, if◌then◌else◌}
+use Rattle.std.specs.Prelude.{ℕ, Bool, true, false, eqb, if◌then◌else◌, Result, Ok, Err}
 use Rattle.domain.specs.declared.token.Holding.{Holding}
 use Rattle.domain.specs.declared.token.Holding.TheVariants.{Free, Grabbed, Inhibited, Giving, Given}
-use Rattle.domain.specs.declared.token.Turned.{Turned as CodeTurned}
-use Rattle.domain.specs.declared.token.Turned.TheVariants.{Fails, Turns}
+use Rattle.domain.specs.declared.numbers.Result.{Result as Why}
 use Rattle.domain.specs.Numbers.{result_number}
 use Rattle.cols_spec.specs.Sets.{has, with, without, minus, only, seats}
 use Rattle.codec_table.specs.Named.{token_not_available, token_not_possessed, too_many_tokens}
@@ -14,9 +13,9 @@ pub data Turned : Type 0 where
   fails : ℕ → Turned
   turns : Holding → Turned
 
-abbrev pub turned_of : CodeTurned → Turned
-turned_of (Fails r) = fails (result_number r)
-turned_of (Turns h) = turns h
+abbrev pub turned_of : Result Holding Why → Turned
+turned_of (Err r) = fails (result_number r)
+turned_of (Ok h) = turns h
 
 -- the first that fits: notInUse; selfGrabbed, otherGrabbed; selfInhibited, otherInhibited; giving by u selfGiving; giving or given to u
 -- selfRecipient; else otherGiving
