@@ -52,6 +52,14 @@ refused Release full h i n o e = absurd (miss (3 ∷ 4 ∷ []) 2 tt o)
 refused (Offer r) full h i n o e = (refl, ap fails e)
 refused (Answer a) full h i n o e = (refl, ap fails e)
 
+-- the recipient of an offer that the asker may make, sought and found, and not passed on
+pub passed_on : (b : Bool) (us : Users) (r j : ℕ) → At j ≡ (if b then find us.ids r else Nowhere) → (b ≡ true) × (find us.ids r ≡ At j)
+passed_on true us r j e = (refl, sym e)
+passed_on false us r j e = absurd (cc)
+
+pub kept_back : (b : Bool) (us : Users) (r : ℕ) → Nowhere ≡ (if b then find us.ids r else Nowhere) → b ≡ true → find us.ids r ≡ Nowhere
+kept_back b us r e h = sym (rw h at e)
+
 -- what is made of it for the user at place i is what the request makes of it
 module _ (full : Bool) (us : Users) (ts : Tokens) (p u i k : ℕ) (here : attached us p u ≡ At i) (h : Holding) (is : h ≡ state ts k) where
   turn_from : (confirms : (ℕ → ℕ → ℕ → ℕ → Message)) (act : (Holding → ℕ → Turned))

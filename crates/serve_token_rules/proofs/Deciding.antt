@@ -1,5 +1,5 @@
 -- What is decided of a token is what the request asks for. Assumes nothing.
-use Rattle.std.specs.Prelude.{if◌then◌else◌}
+use Rattle.std.specs.Prelude.{Result, Ok, Err, Some, None, if◌then◌else◌}
 use mathlib.Core.Path.{◌≡◌, refl, sym, ap, ◌∙◌}
 use mathlib.Core.Bool.{Bool, true, false}
 use mathlib.Core.List.{List, [], ◌∷◌}
@@ -12,13 +12,11 @@ use Rattle.codec_table.specs.Named.{Message, TVin, TVcf, successful, no_such_use
 use Rattle.out_records.specs.Records.{to, wire}
 use Rattle.out_messages.specs.Confirms.{confirm}
 use Rattle.out_messages.specs.declared.Confirm.{Confirm}
-use Rattle.domain.specs.declared.numbers.Result.{Result}
+use Rattle.domain.specs.declared.numbers.Result.{Result as Why}
 use Rattle.domain.specs.declared.token.Holding.{Holding}
 use Rattle.domain.specs.declared.token.Holding.TheVariants.{Free, Grabbed, Inhibited, Giving, Given}
 use Rattle.domain.specs.declared.token.Token.{Token}
 use Rattle.domain.specs.contracts.token.Holding.{the_type}
-use Rattle.domain.specs.declared.token.Turned.{Turned as CodeTurned}
-use Rattle.domain.specs.declared.token.Turned.TheVariants.{Fails, Turns as TurnsTo}
 use Rattle.domain.specs.Cells.{token_of}
 use Rattle.domain.specs.Numbers.{result_number}
 use Rattle.domain.specs.Tokens.{turned_of, status, grabbed_by, offered_to, responded}
@@ -36,35 +34,36 @@ use Rattle.serve_reply.proofs.Initiators.{from_at, from_nobody}
 -- ---- a deed, and the effect that it is
 module _ (ts : Tokens) (k : ℕ) where
   module _ {q : ℕ} {m : List ℕ} (x : Message) (o : m ≡ wire x) {e : Effect Tokens} where
-    pub stays : e ≡ done ts (to q x ∷ []) → Does ts k (record { fate = Stays; told = true; q = q; m = m }) e
+    pub stays : e ≡ done ts (to q x ∷ []) → Does ts k (record { fate = Stays; told = Some (record { q = q; m = m }) }) e
     unfolding Does Doing Telling fated
     stays r = record { message = x; octets = o; effect = r }
 
-    pub turns : (h : Holding) {t : Token} → t ≡ token_of h → e ≡ done (set_token ts k h) (to q x ∷ []) → Does ts k (record { fate = Turns t; told = true; q = q; m = m }) e
+    pub turns : (h : Holding) {t : Token} → t ≡ token_of h → e ≡ done (set_token ts k h) (to q x ∷ []) → Does ts k (record { fate = Turns t; told = Some (record { q = q; m = m }) }) e
     unfolding Does Doing Telling fated
     turns h c r = record { message = x; octets = o; effect = rw (c, set_found ts k h) r }
 
-  module _ (d : Deed) {e : Effect Tokens} where
-    pub quiet_ignored : d.fate ≡ Ignored → e ≡ ignored → Does ts k d e
+  module _ {e : Effect Tokens} where
+    pub quiet_ignored : e ≡ ignored → Does ts k (record { fate = Ignored; told = None }) e
     unfolding Does Doing
-    quiet_ignored f r = rw f r
+    quiet_ignored r = r
 
-    pub quiet_turns : (h : Holding) {t : Token} → t ≡ token_of h → d.fate ≡ Turns t → d.told ≡ false → e ≡ done (set_token ts k h) [] → Does ts k d e
+    pub quiet_turns : (h : Holding) {t : Token} → t ≡ token_of h → e ≡ done (set_token ts k h) [] → Does ts k (record { fate = Turns t; told = None }) e
     unfolding Does Doing Telling fated
-    quiet_turns h c f s r = rw (f, s, c, set_found ts k h) r
+    quiet_turns h c r = rw (c, set_found ts k h) r
 
+  module _ (d : Deed) {e : Effect Tokens} where
     pub does_as : {w : Effect Tokens} → Does ts k d w → w ≡ e → Does ts k d e
     does_as p r = rw r at p
 
 -- ---- what a request makes of its token
-module _ (ts : Tokens) (p u i k : ℕ) (kind : Confirm) (t : CodeTurned) {m : List ℕ} where
-  pub turned_fails : (h : Holding) (why : Result) (n : ℕ) → h ≡ state ts k → t ≡ Fails why → n ≡ result_number why → m ≡ wire (confirm kind n u k (status h i))
-      → Does ts k (record { fate = Stays; told = true; q = p; m = m }) (turn ts p u i k (confirm kind) (turned_of t))
+module _ (ts : Tokens) (p u i k : ℕ) (kind : Confirm) (t : Result Holding Why) {m : List ℕ} where
+  pub turned_fails : (h : Holding) (why : Why) (n : ℕ) → h ≡ state ts k → t ≡ Err why → n ≡ result_number why → m ≡ wire (confirm kind n u k (status h i))
+      → Does ts k (record { fate = Stays; told = Some (record { q = p; m = m }) }) (turn ts p u i k (confirm kind) (turned_of t))
   unfolding turn
   turned_fails h why n is e r o = stays ts k (confirm kind n u k (status h i)) o (rw (e, is, r) refl)
 
-  pub turned_turns : (h : Holding) {c : Token} → t ≡ TurnsTo h → c ≡ token_of h → m ≡ wire (confirm kind 0 u k (status h i))
-      → Does ts k (record { fate = Turns c; told = true; q = p; m = m }) (turn ts p u i k (confirm kind) (turned_of t))
+  pub turned_turns : (h : Holding) {c : Token} → t ≡ Ok h → c ≡ token_of h → m ≡ wire (confirm kind 0 u k (status h i))
+      → Does ts k (record { fate = Turns c; told = Some (record { q = p; m = m }) }) (turn ts p u i k (confirm kind) (turned_of t))
   unfolding turn
   turned_turns h e is o = turns ts k (confirm kind 0 u k (status h i)) o h is (rw e refl)
 

@@ -1,20 +1,21 @@
 -- What is confirmed to the asker itself: every request but an answer, and an offer only where it is not passed on.
-use Rattle.std.specs.Prelude.{ℕ, Bool, List, if◌then◌else◌}
+use Rattle.std.specs.Prelude.{ℕ, Bool, Option, if◌then◌else◌}
 use Rattle.cols_spec.specs.Places.{load}
 use Rattle.codec_table.specs.Named.{no_such_user, token_not_possessed}
 use Rattle.out_messages.specs.declared.Confirm.{Confirm}
 use Rattle.out_messages.specs.declared.Confirm.TheVariants as confirm
 use Rattle.domain.specs.declared.token.Holding.{Holding}
 use Rattle.domain.specs.Cells.{hold, no_token}
-use Rattle.domain.specs.Tables.{token_cells}
-use Rattle.domain_tables.specs.Numbered.{place}
+use Rattle.domain_tables.specs.declared.tokens.Tokens.{Tokens}
+use Rattle.domain_tables.specs.Held.{token_cells_in}
+use Rattle.domain_tables.specs.Numbered.{placed}
 use Rattle.domain.specs.Tokens.{Turned, fails, grab, inhibit, release, grabbed_by}
 use Rattle.serve_token_rules.specs.declared.Ask.{Ask}
 use Rattle.serve_token_rules.specs.declared.Ask.TheVariants.{Grab, Inhibit, Release, Offer, Answer}
 
--- the state of the token at a place; where there is no such place it is free
-abbrev pub standing : (modes values : List ℕ) (at : ℕ) → Holding
-standing modes values at = hold (load (token_cells modes values) (place 64 at) no_token)
+-- the state of the token at a place; at none, or where there is no such place, it is free
+abbrev pub standing : (ts : Tokens) (at : Option ℕ) → Holding
+standing ts at = hold (load (token_cells_in ts) (placed at) no_token)
 
 -- why an offer by the user at place i is not passed on
 abbrev pub refusal : (h : Holding) (i : ℕ) → ℕ

@@ -1,5 +1,5 @@
 -- What is asked for of a token, and what is done of it.
-use Rattle.std.specs.Prelude.{ℕ, ◌≡◌, Bool, true, false, List, [], ◌∷◌}
+use Rattle.std.specs.Prelude.{ℕ, ◌≡◌, Bool, Option, Some, None, List, [], ◌∷◌}
 use Rattle.cols_spec.specs.Places.{find}
 use Rattle.codec_table.specs.Named.{Message}
 use Rattle.out_records.specs.Records.{to, wire}
@@ -11,6 +11,7 @@ use Rattle.serve_token_rules.specs.declared.Ask.{Ask}
 use Rattle.serve_token_rules.specs.declared.Ask.TheVariants.{Grab, Inhibit, Release, Offer, Answer}
 use Rattle.serve_token_rules.specs.declared.Fate.{Fate}
 use Rattle.serve_token_rules.specs.declared.Fate.TheVariants.{Ignored, Stays, Turns}
+use Rattle.serve_token_rules.specs.declared.Told.{Told as ToldStruct}
 use Rattle.serve_token_rules.specs.declared.Deed.{Deed}
 
 -- what comes of each; the limit matters to the first two
@@ -28,12 +29,12 @@ pub record Told (q : ℕ) (m : List ℕ) (after : Tokens) (e : Effect Tokens) : 
   pub effect : e ≡ done after (to q message ∷ [])
 
 -- or nobody is told
-unfoldable pub Telling : Bool → (q : ℕ) (m : List ℕ) (after : Tokens) (e : Effect Tokens) → Type 0
-Telling true q m after e = Told q m after e
-Telling false q m after e = e ≡ done after []
+unfoldable pub Telling : Option ToldStruct → (after : Tokens) (e : Effect Tokens) → Type 0
+Telling (Some t) after e = Told t.q t.m after e
+Telling None after e = e ≡ done after []
 
 abbrev pub Tells : (d : Deed) (after : Tokens) (e : Effect Tokens) → Type 0
-Tells d after e = Telling d.told d.q d.m after e
+Tells d after e = Telling d.told after e
 
 -- the table of tokens after it: the cell of the state that token k turns to stands at its place
 unfoldable pub fated : (ts : Tokens) (k : ℕ) (fate : Fate) → Tokens

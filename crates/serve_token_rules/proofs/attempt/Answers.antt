@@ -10,7 +10,7 @@ returns-in-Grab c =
     let a = c.args in
     let h = c.state_at-h in
     rw c.in-Grab.is
-    (refl, h.ensures, c.grab.ensures ∙ grab_same h.result a.i c.full_for.result (at_limit a.limit a.token_ids.now) c.full_for.ensures)
+    (refl, h.ensures, c.grab.ensures ∙ grab_same h.result a.i c.full_for.result (at_limit a.limit a.tokens.now.ids) c.full_for.ensures)
 
 pub returns-in-Inhibit : goal.returns-in-Inhibit
 unfolding kind_of attempted
@@ -18,7 +18,7 @@ returns-in-Inhibit c =
     let a = c.args in
     let h = c.state_at-h-in-Inhibit in
     rw c.in-Inhibit.is
-    (refl, h.ensures, c.inhibit.ensures ∙ inhibit_same h.result a.i c.full_for-in-Inhibit.result (at_limit a.limit a.token_ids.now) c.full_for-in-Inhibit.ensures)
+    (refl, h.ensures, c.inhibit.ensures ∙ inhibit_same h.result a.i c.full_for-in-Inhibit.result (at_limit a.limit a.tokens.now.ids) c.full_for-in-Inhibit.ensures)
 
 pub returns-in-Release : goal.returns-in-Release
 unfolding kind_of attempted
@@ -28,5 +28,5 @@ pub returns-in_default : goal.returns-in_default
 returns-in_default c =
     let a = c.args in
     let h = c.state_at-h-in_default in
-    let r = refused a.ask (at_limit a.limit a.token_ids.now) h.result a.i _ c.in_default.in_default-own.keys4 c.offer_fails.ensures in
+    let r = refused a.ask (at_limit a.limit a.tokens.now.ids) h.result a.i _ c.in_default.in_default-own.keys4 c.offer_fails.ensures in
     (r.0, h.ensures, r.1)

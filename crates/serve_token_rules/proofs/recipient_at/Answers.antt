@@ -1,19 +1,18 @@
--- Found, or nobody is sought since the token is not grabbed.
-use mathlib.Core.Path.{◌≡◌, sym, ◌∙◌}
-use mathlib.Core.Bool.{true≢false}
+use mathlib.Core.Path.{◌≡◌, sym}
 use native.Mathlib.Omega.{arith}
 use lib.ListN.{length}
 use Rattle.cols_spec.proofs.Answers.{find_at, find_nowhere}
 use borrow.Author.Rules.{rules}
 use Rattle.serve_token_rules.proofs.recipient_at.Goals as goal
 
-pub returns-then-has_grabbed : goal.returns-then-has_grabbed
-returns-then-has_grabbed c =
+pub returns-then-j-lt64 : goal.returns-then-j-lt64
+returns-then-j-lt64 c =
     let a = c.args in
-    let l : length a.user_ids.now ≡ 64 = search rules in (
-      λ s. (sym c.has_grabbed.ensures ∙ c.if-has_grabbed.true, find_at a.user_ids.now a.recipient c.find.result c.find.ensures (omega arith)),
-      λ s g. find_nowhere a.user_ids.now a.recipient c.find.result c.find.ensures (omega arith),
-    )
+    let l : length a.users.now.ids ≡ 64 = search rules in
+    rw (← c.has_grabbed.ensures, c.if-not-has_grabbed.false) (sym (find_at a.users.now.ids a.recipient c.find-j.result c.find-j.ensures (omega arith)))
 
-pub returns : goal.returns
-returns c = (λ s. absurd (omega arith), λ s g. absurd (true≢false (sym g ∙ sym c.has_grabbed.ensures ∙ c.if-has_grabbed.false)))
+pub returns-else-j-lt64 : goal.returns-else-j-lt64
+returns-else-j-lt64 c =
+    let a = c.args in
+    let l : length a.users.now.ids ≡ 64 = search rules in
+    rw (← c.has_grabbed.ensures, c.if-not-has_grabbed.false) (sym (find_nowhere a.users.now.ids a.recipient c.find-j.result c.find-j.ensures (omega arith)))
