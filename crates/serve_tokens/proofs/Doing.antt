@@ -1,39 +1,59 @@
 -- A deed that is done settles what its effect does. Assumes nothing.
-use Rattle.std.specs.Prelude.{if◌then◌else◌}
+use Rattle.std.specs.Prelude.{Some, None, if◌then◌else◌}
 use mathlib.Core.Path.{◌≡◌, refl, sym, ap, ◌∙◌}
-use mathlib.Core.Bool.{true, false}
 use mathlib.Core.List.{List, [], ◌∷◌}
 use Prim.Native.Nat.{ℕ, ◌≤◌}
 use lib.Dec.{eqb}
 use lib.ListN.{length}
 use types.Run.{OneOf, miss}
+use denote.Enum.Bare.{sameb}
 use denote.Enum.Declared.{tag_of}
 use Rattle.out_records.specs.Records.{to, record_of}
 use Rattle.out_records.specs.Out.{guarded}
+use Rattle.domain.specs.declared.numbers.Reply.{Reply}
+use Rattle.domain.specs.declared.numbers.Reply.TheVariants.{Done, NotOpen, OpenAlready, WrongLength, BadEncoding, MayNotGoUp, NotServed, TooLong, NoRoom, BadLimit, BadFrame}
+use Rattle.domain.specs.contracts.numbers.Reply.{the_type as reply}
+use Rattle.domain.specs.Numbers.{reply_number}
 use Rattle.domain.specs.Tables.{Tokens}
 use Rattle.domain.specs.Effects.{Effect, done, ignored, settled, settle}
 use Rattle.domain.proofs.Effects.{delivers_none, settle_done}
 use Rattle.serve_token_rules.specs.declared.Fate.{Fate}
 use Rattle.serve_token_rules.specs.declared.Fate.TheVariants.{Ignored, Stays, Turns}
+use Rattle.serve_token_rules.specs.declared.Told.{Told as ToldStruct}
 use Rattle.serve_token_rules.specs.declared.Deed.{Deed}
 use Rattle.serve_token_rules.specs.Deeds.{Told, Telling, Tells, fated, Doing, Does}
 use Rattle.serve_token_rules.specs.contracts.Fate.{the_type}
 use Rattle.serve_reply.specs.Whole.{whole}
 use Rattle.serve_reply.proofs.Sending.{confirmed, did_either}
 
+-- ---- a reply, by its name and by its number
+pub no_room : (r : Reply) → sameb reply r NoRoom ≡ eqb (reply_number r) 9
+no_room Done = refl
+no_room Reply.Ignored = refl
+no_room NotOpen = refl
+no_room OpenAlready = refl
+no_room WrongLength = refl
+no_room BadEncoding = refl
+no_room MayNotGoUp = refl
+no_room NotServed = refl
+no_room TooLong = refl
+no_room NoRoom = refl
+no_room BadLimit = refl
+no_room BadFrame = refl
+
 -- ---- who is told
 module _ (d : Deed) (before after : Tokens) (e : Effect Tokens) (out : List ℕ) (t : Tells d after e) where
-  told_one : d.told ≡ true → Told d.q d.m after e
+  told_one : (who : ToldStruct) → d.told ≡ Some who → Told who.q who.m after e
   unfolding Telling
-  told_one b = rw b at t
+  told_one who b = rw b at t
 
-  pub told_sent : d.told ≡ true → length d.m ≤ 1024 → {n k : ℕ} {o : List ℕ} → settled {A = Unit {0}} n k tt o ≡ whole (guarded 0 d.m (record_of d.m d.q)) out
+  pub told_sent : (who : ToldStruct) → d.told ≡ Some who → length who.m ≤ 1024 → {n k : ℕ} {o : List ℕ} → settled {A = Unit {0}} n k tt o ≡ whole (guarded 0 who.m (record_of who.m who.q)) out
       → settled n k (if eqb n 9 then before else after) o ≡ settle before e out
-  told_sent b l h =
-      let one = told_one b in
-      did_either (to d.q one.message ∷ []) out (confirmed one.message d.q out one.octets l h) before after ∙ ap (λ (x : Effect Tokens). settle before x out) (sym one.effect)
+  told_sent who b l h =
+      let one = told_one who b in
+      did_either (to who.q one.message ∷ []) out (confirmed one.message who.q out one.octets l h) before after ∙ ap (λ (x : Effect Tokens). settle before x out) (sym one.effect)
 
-  pub told_none : d.told ≡ false → settled 0 0 after out ≡ settle before e out
+  pub told_none : d.told ≡ None → settled 0 0 after out ≡ settle before e out
   unfolding Telling
   told_none b =
       let none : e ≡ done after [] = rw b at t in

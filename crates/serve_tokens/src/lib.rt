@@ -1,138 +1,117 @@
-// Requests about tokens, on lent columns: TGrq, TIrq, TRrq, TVrq, TVrs, TPrq, TTrq. Each decides, refuses what has no room, then stores and sends.
+// Requests about tokens: TGrq, TIrq, TRrq, TVrq, TVrs, TPrq, TTrq. Each decides, refuses what has no room, then stores and sends.
 #![tactic(auto)]
 
 ghost use Rattle.std.specs.Prelude.{◌≡◌, ℕ, eqb, if◌then◌else◌};
 ghost use Rattle.cols_spec.specs.Places.{At, find};
-ghost use Rattle.out_records.specs.Records.{to};
 ghost use Rattle.domain.specs.Numbers.{reply_number};
-ghost use Rattle.domain.specs.Tables.{Channels, Tokens, Domain, put_tokens, attached, state};
-ghost use Rattle.domain.specs.Lent.{tokens_after, tokens_before, users_now};
-ghost use Rattle.domain.specs.Effects.{Effect, settle, answered, done, within};
+ghost use Rattle.domain.specs.Tables.{Users as UserTable, Tokens as TokenTable, Domain as DomainTables, put_tokens, attached, state};
+ghost use Rattle.domain.specs.Effects.{Effect, settle, answered, within};
 ghost use Rattle.domain.specs.Passing.{please as please_of, test as test_of};
 ghost use Rattle.domain.specs.Events.{act, tokens_full};
-ghost use Rattle.domain.specs.Assembled.{assembled};
-ghost use Rattle.serve_read.specs.Requests.{pass_request, token_request};
-ghost use Rattle.domain_tables.specs.Numbered.{place};
-ghost use Rattle.serve_token_rules.specs.Deeds.{Tells, Does, fated, asked};
+ghost use Rattle.domain_tables.specs.Held.{domain_in, users_in, tokens_in};
+ghost use Rattle.domain_tables.specs.Numbered.{placed};
+ghost use Rattle.serve_read.specs.Requests.{token_request};
+ghost use Rattle.serve_token_rules.specs.Deeds.{Tells, Does, fated};
+ghost use Rattle.serve_tokens.specs.Wanting.{wanted};
 
-use domain::Limits;
 use domain::answer::Answer;
 use domain::numbers::Reply;
 use domain::token::Holding;
+use domain_tables::{Domain, Tokens, Users};
 use serve_token_rules::{Ask, Deed, Fate};
 
+// What a request about a token wants: its status; that those who have it are told; or that it changes.
+#[derive(Clone, Copy)]
+enum Wanted {
+    Test,
+    Please,
+    Change(Ask),
+}
+
 // What becomes of token k, which stands at a place or nowhere, is stored.
-fn keep(
-    token_ids: &mut [u16; 64],
-    token_states: &mut [u8; 64],
-    token_values: &mut [u64; 64],
-    at: usize,
-    k: u16,
-    fate: Fate,
-)
-    ensures { place 64 at ≡ find token_ids.old k → tokens_after token_ids token_states token_values
-        ≡ fated (tokens_before token_ids token_states token_values) k fate }
+fn keep(tokens: &mut Tokens, at: Option<usize>, k: u16, fate: Fate)
+    ensures { placed at ≡ find tokens.old.ids k → tokens_in tokens.new ≡ fated (tokens_in tokens.old) k fate }
 {
     if let Fate::Turns(t) = fate {
-        domain_tables::tokens::set_at(token_ids, token_states, token_values, at, k, t);
+        tokens.put_at(at, k, t);
     }
 }
 
 // Who is to be told of a deed is told, where there is room.
-fn deliver(d: Deed, out: &mut [u8]) -> Answer
-    ensures { (before after : Tokens) (e : Effect Tokens) → Tells d after e
+fn deliver(deed: Deed, out: &mut [u8]) -> Answer
+    ensures { (before after : TokenTable) (e : Effect TokenTable) → Tells deed after e
         → answered result (if eqb (reply_number result.reply) 9 then before else after) out.new ≡ settle before e out.old }
 {
-    if d.told {
-        let q = d.q;
-        let m = d.m;
-        return serve_reply::confirm(out, q, &m);
-    }
-    Answer {
-        reply: Reply::Done,
-        sent: 0,
+    match deed.told {
+        Some(told) => serve_reply::confirm(out, told.q, &told.m),
+        None => Answer {
+            reply: Reply::Done,
+            sent: 0,
+        },
     }
 }
 
 // A deed about token k is done: it is sent, or there is no room for it, and stored.
-fn carry(
-    token_ids: &mut [u16; 64],
-    token_states: &mut [u8; 64],
-    token_values: &mut [u64; 64],
-    at: usize,
-    k: u16,
-    d: Deed,
-    out: &mut [u8],
-) -> Answer
-    requires { place 64 at ≡ find token_ids.old k }
-    ensures { (e : Effect Tokens) → Does (tokens_before token_ids token_states token_values) k d e
-        → answered result (tokens_after token_ids token_states token_values) out.new
-        ≡ settle (tokens_before token_ids token_states token_values) e out.old }
+fn carry(tokens: &mut Tokens, at: Option<usize>, k: u16, deed: Deed, out: &mut [u8]) -> Answer
+    requires { placed at ≡ find tokens.old.ids k }
+    ensures { (e : Effect TokenTable) → Does (tokens_in tokens.old) k deed e
+        → answered result (tokens_in tokens.new) out.new ≡ settle (tokens_in tokens.old) e out.old }
 {
-    let fate = d.fate;
-    if let Fate::Ignored = fate {
+    if let Fate::Ignored = deed.fate {
         return Answer {
             reply: Reply::Ignored,
             sent: 0,
         };
     }
-    let a = deliver(d, out);
-    let reply = a.reply;
-    if domain_state::numbers::reply_number(reply) == 9 {
+    let a = deliver(deed, out);
+    if a.reply == Reply::NoRoom {
         return a;
     }
-    keep(token_ids, token_states, token_values, at, k, fate);
+    keep(tokens, at, k, deed.fate);
     a
 }
 
-// TTrq by u on p, at place i, for token k in state h, or TPrq: nothing is stored.
-fn inquire(
-    user_ids: &[u16; 64],
-    user_links: &[u8; 64],
-    p: u8,
-    u: u16,
-    i: u8,
-    k: u16,
-    h: Holding,
-    tests: bool,
-    out: &mut [u8],
-) -> Answer
-    ensures { let us = users_now user_ids user_links in
-        ((ts : Tokens) → h ≡ state ts k → attached us p u ≡ At i
-        → answered result ts out.new ≡ settle ts ((if tests then test_of else please_of) us ts p u k) out.old) }
+// TTrq by u on p, at place i, for token k in state h.
+fn test(p: u8, u: u16, i: u8, k: u16, h: Holding, out: &mut [u8]) -> Answer
+    ensures { (us : UserTable) (ts : TokenTable) → h ≡ state ts k → attached us p u ≡ At i
+        → answered result ts out.new ≡ settle ts (test_of us ts p u k) out.old }
 {
-    if tests {
-        let status = domain_state::numbers::status_number(domain_state::token::status(h, i));
-        let m = out_messages::test_confirm(u, k, status);
-        return serve_reply::confirm(out, p, &m);
-    }
-    let mask = domain_tables::users::hosts(user_ids, user_links, domain_state::token::party(h));
+    let status = u8::from(domain_state::token::status(h, i));
+    let m = out_messages::test_confirm(u, k, status);
+    serve_reply::confirm(out, p, &m)
+}
+
+// TPrq by u for token k in state h.
+fn please(users: &Users, u: u16, k: u16, h: Holding, out: &mut [u8]) -> Answer
+    ensures { let us = users_in users.now in
+        ((ts : TokenTable) (p i : ℕ) → h ≡ state ts k → attached us p u ≡ At i
+        → answered result ts out.new ≡ settle ts (please_of us ts p u k) out.old) }
+{
+    let mask = users.hosts(domain_state::token::party(h));
     let m = out_messages::please_indication(u, k);
     serve_reply::tell(out, mask, &m)
 }
 
-// What a request asks for that is about to change a token, by its number. `more` is the recipient of a TVrq, 33, or the result of a TVrs, 35.
-fn ask_of(number: u32, more: u16) -> Ask
-    ensures { (u k new : ℕ) (d : Domain) (p : ℕ) → act new d p (pass_request number u k more)
-        ≡ within (put_tokens d) (asked result (tokens_full d) d.users d.tokens p u k) }
+// What a request wants, by its number. `more` is the recipient of a TVrq, 33, or the result of a TVrs, 35.
+#[tactic(auto, unfolding(serve_read::specs::Requests::token_request, serve_read::specs::Requests::pass_request, domain::specs::Events::act, domain::specs::Events::tokens_full))]
+fn wanted_by(number: u32, more: u16) -> Wanted
+    ensures { (u k new : ℕ) (d : DomainTables) (p : ℕ) → act new d p (token_request number u k more)
+        ≡ within (put_tokens d) (wanted result (tokens_full d) d.users d.tokens p u k) }
 {
     match number {
-        29 => Ask::Grab,
-        31 => Ask::Inhibit,
-        33 => Ask::Offer(more),
-        35 => Ask::Answer((more % 16) as u8),
-        _ => Ask::Release,
+        29 => Wanted::Change(Ask::Grab),
+        31 => Wanted::Change(Ask::Inhibit),
+        33 => Wanted::Change(Ask::Offer(more)),
+        35 => Wanted::Change(Ask::Answer((more % 16) as u8)),
+        37 => Wanted::Please,
+        41.. => Wanted::Test,
+        _ => Wanted::Change(Ask::Release),
     }
 }
 
 // Each of these requests, by its number: the user and the token are sought, then it is told apart.
 pub fn request(
-    limits: Limits,
-    user_ids: &[u16; 64],
-    user_links: &[u8; 64],
-    token_ids: &mut [u16; 64],
-    token_states: &mut [u8; 64],
-    token_values: &mut [u64; 64],
+    d: &mut Domain,
     p: u8,
     number: u32,
     u: u16,
@@ -140,40 +119,23 @@ pub fn request(
     more: u16,
     out: &mut [u8],
 ) -> Answer
-    ensures { (m : ℕ) (cs : Channels) (new : ℕ) →
-        let d = assembled limits m (users_now user_ids user_links) cs (tokens_before token_ids token_states token_values) in
-        answered result (assembled limits m (users_now user_ids user_links) cs (tokens_after token_ids token_states token_values)) out.new
-        ≡ settle d (act new d p (token_request number u k more)) out.old }
+    ensures { (new : ℕ) → answered result (domain_in d.new) out.new
+        ≡ settle (domain_in d.old) (act new (domain_in d.old) p (token_request number u k more)) out.old }
 {
-    let place = serve_reply::initiator(user_ids, user_links, p, u);
-    if 64 <= place {
+    let Some(i) = d.users.attached(p, u) else {
         return Answer {
             reply: Reply::Ignored,
             sent: 0,
         };
+    };
+    let at = d.tokens.find(k);
+    match wanted_by(number, more) {
+        Wanted::Test => test(p, u, i, k, d.tokens.state_at(at), out),
+        Wanted::Please => please(&d.users, u, k, d.tokens.state_at(at), out),
+        Wanted::Change(ask) => {
+            let most = d.limits.tokens;
+            let deed = serve_token_rules::decide(&d.users, &d.tokens, most, p, u, i, k, at, ask);
+            carry(&mut d.tokens, at, k, deed, out)
+        }
     }
-    let i = place as u8;
-    let at = cols_find::find(token_ids, k);
-    let tests = 40 < number;
-    if tests | (number == 37) {
-        let h = domain_tables::tokens::state_at(token_states, token_values, at);
-        return inquire(user_ids, user_links, p, u, i, k, h, tests, out);
-    }
-    let most = limits.tokens;
-    let ask = ask_of(number, more);
-    let d = serve_token_rules::decide(
-        user_ids,
-        user_links,
-        token_ids,
-        token_states,
-        token_values,
-        most,
-        p,
-        u,
-        i,
-        k,
-        at,
-        ask,
-    );
-    carry(token_ids, token_states, token_values, at, k, d, out)
 }

@@ -1,41 +1,36 @@
 -- Who asks for which token is found first; the request is then told apart.
-use mathlib.Core.Path.{refl, ◌∙◌}
+use mathlib.Core.Path.{refl, sym, ◌∙◌}
 use Rattle.domain.specs.Events.{tokens_full}
 use Rattle.domain.specs.Effects.{ignored, settle}
-use Rattle.domain.specs.Tables.{tokens_of}
-use Rattle.serve_read.specs.Requests.{token_request}
-use Rattle.domain.proofs.Requesting.{on_tokens}
-use Rattle.domain_tables.specs.Numbered.{place}
-use Rattle.domain_tables.proofs.PlaceLaws.{find_place}
+use Rattle.domain_tables.specs.Held.{domain_in, tokens_in}
+use Rattle.domain_tables.specs.Numbered.{placed}
 use Rattle.domain_tables.proofs.TokenLaws.{state_found}
-use Rattle.serve_reply.proofs.Initiators.{placed, unplaced}
-use Rattle.serve_tokens.proofs.Inquiring.{asked_to, ignored_to, not_asked_to}
-use borrow.Author.Rules.{rules}
+use Rattle.serve_tokens.proofs.Inquiring.{asked_of, ignored_to}
 use Rattle.serve_tokens.proofs.request.Goals as goal
 
-pub returns-then-place-ge64 : goal.returns-then-place-ge64
+pub returns-in_default : goal.returns-in_default
 unfolding settle
-returns-then-place-ge64 c = λ m cs new. let a = c.args in
-    on_tokens a.limits m _ cs _ new a.p (token_request a.number a.u a.k a.more) _ ignored refl
-    (ignored_to new _ a.p a.number a.u a.k a.more (unplaced _ _ _ c.initiator-place.ensures c.if-place-ge64.true))
+returns-in_default c = λ new. let a = c.args in
+    asked_of (domain_in a.d.now) new a.p _ a.out.now ignored refl (ignored_to new (domain_in a.d.now) a.p a.number a.u a.k a.more (sym c.in_default.ensures))
 
-pub returns-then-tests-number : goal.returns-then-tests-number
-returns-then-tests-number c = λ m cs new. let a = c.args in
-    let ts = tokens_of a.token_ids.now a.token_states.now a.token_values.now in
-    let is = state_found ts a.k _ (place 64 c.find-at.result) (find_place a.token_ids.now a.k c.find-at.result 64 (search rules) c.find-at.ensures) refl in
-    let here = placed _ _ _ c.initiator-place.ensures c.if-place-ge64.false in
-    on_tokens a.limits m _ cs _ new a.p (token_request a.number a.u a.k a.more) _ _ (c.inquire.ensures ts (c.state_at-h.ensures ∙ is) here)
-    (asked_to new _ a.p a.number a.u a.k a.more c.if-tests-number.true)
+pub returns-in-Test : goal.returns-in-Test
+returns-in-Test c = λ new. let a = c.args in
+    let ts = tokens_in a.d.now.tokens in
+    let is = state_found ts a.k _ (placed c.find-at.result) c.find-at.ensures refl in
+    asked_of (domain_in a.d.now) new a.p _ a.out.now _ (c.test.ensures _ ts (c.state_at.ensures ∙ is) (sym c.in-Some.ensures)) (c.in-Test.ensures a.u a.k new _ a.p)
+
+pub returns-in-Please : goal.returns-in-Please
+returns-in-Please c = λ new. let a = c.args in
+    let ts = tokens_in a.d.now.tokens in
+    let is = state_found ts a.k _ (placed c.find-at.result) c.find-at.ensures refl in
+    asked_of (domain_in a.d.now) new a.p _ a.out.now _ (c.please.ensures ts a.p _ (c.state_at-in-Please.ensures ∙ is) (sym c.in-Some.ensures)) (c.in-Please.ensures a.u a.k new _ a.p)
 
 pub carry-requires : goal.carry-requires
-carry-requires c = let a = c.args in
-    find_place a.token_ids.now a.k c.find-at.result 64 (search rules) c.find-at.ensures
+carry-requires c = c.find-at.ensures
 
-pub returns : goal.returns
+pub returns-in-Change : goal.returns-in-Change
 unfolding tokens_full
-returns c = λ m cs new. let a = c.args in
-    let ts = tokens_of a.token_ids.now a.token_states.now a.token_values.now in
-    let is = state_found ts a.k _ (place 64 c.find-at.result) (find_place a.token_ids.now a.k c.find-at.result 64 (search rules) c.find-at.ensures) refl in
-    let here = placed _ _ _ c.initiator-place.ensures c.if-place-ge64.false in
-    on_tokens a.limits m _ cs _ new a.p (token_request a.number a.u a.k a.more) _ _ (c.carry.ensures _ (c.decide-d.ensures ts is here))
-    (rw (not_asked_to a.number a.u a.k a.more c.if-tests-number.false) (c.ask_of-ask.ensures a.u a.k new _ a.p))
+returns-in-Change c = λ new. let a = c.args in
+    let ts = tokens_in a.d.now.tokens in
+    let is = state_found ts a.k _ (placed c.find-at.result) c.find-at.ensures refl in
+    asked_of (domain_in a.d.now) new a.p _ a.out.now _ (c.carry.ensures _ (c.decide-deed.ensures ts is (sym c.in-Some.ensures))) (c.in-Change.ensures a.u a.k new _ a.p)
