@@ -3,7 +3,7 @@
 
 ghost use Rattle.std.specs.Prelude.{◌≡◌, [], ◌∷◌, ◌≤◌, length, take};
 ghost use Rattle.trace_frames.specs.Frames.{front, size_of};
-ghost use Rattle.domain.specs.Lent.{tokens_before, tokens_now};
+ghost use Rattle.domain_tables.specs.Held.{tokens_in};
 ghost use Rattle.trace_io.specs.Lines.{decimal, Says};
 ghost use Rattle.explain_stop.specs.StopLine.{Tells};
 ghost use Rattle.explain_frame.specs.Sent.{sent_texts};
@@ -11,6 +11,7 @@ ghost use Rattle.explain_frame.specs.Frames.{event_texts, octets_line, refused_t
 
 mod sent;
 
+use domain_tables::{Tokens, Users};
 use explain_words::words::say_named;
 use trace_frames::{Frame, Kind};
 use trace_io::lines::{Report, say, say_number};
@@ -197,32 +198,17 @@ pub fn put_frame(
     s: &[u8],
     report: Report,
     room: &[u8],
-    user_ids: &[u16; 64],
-    token_ids: &[u16; 64],
-    token_states: &[u8; 64],
-    token_values: &[u64; 64],
-    old_token_ids: &mut [u16; 64],
-    old_token_states: &mut [u8; 64],
-    old_token_values: &mut [u64; 64],
+    users: &Users,
+    tokens: &Tokens,
+    old: &mut Tokens,
 ) -> usize
-    ensures { Tells (message_in s.now (front s.now)) (frame_texts number s.now report room.now user_ids.now
-        (tokens_before old_token_ids old_token_states old_token_values)
-        (tokens_now token_ids token_states token_values)) out.old filled out.new result
-        × (old_token_ids.new ≡ token_ids.now) × (old_token_states.new ≡ token_states.now) × (old_token_values.new ≡ token_values.now) }
+    ensures { Tells (message_in s.now (front s.now)) (frame_texts number s.now report room.now users.now.ids
+        (tokens_in old.old) (tokens_in tokens.now)) out.old filled out.new result
+        × (old.new ≡ tokens.now) }
 {
     let a = put_count(out, filled, b"frame ", number);
     let b = put_front(out, a, s, report.reply);
     let c = put_reply(out, b, report);
     let d = put_sent(out, c, room, report.sent);
-    explain_tokens::put_changes(
-        out,
-        d,
-        user_ids,
-        token_ids,
-        token_states,
-        token_values,
-        old_token_ids,
-        old_token_states,
-        old_token_values,
-    )
+    explain_tokens::put_changes(out, d, users, tokens, old)
 }

@@ -16,14 +16,14 @@ use Rattle.trace_io.proofs.Saying.{Onward, onward_start, onward_step, onward_end
 use Rattle.domain.specs.declared.token.Holding.{Holding}
 use Rattle.explain_tokens.specs.Holders.{over, picked_from, holding_texts}
 
--- a loop that tells the ids of a column in ascending order: `left` turns are left, and ids up to `low` are told
-pub record Rising (f : ℕ → List (List ℕ)) (ids o : List ℕ) (w : ℕ) (x : List ℕ) (r low left : ℕ) : Type 0 where
+-- a loop that tells the ids of a column in ascending order: it turned i times, and ids up to `low` are told
+pub record Rising (f : ℕ → List (List ℕ)) (ids o : List ℕ) (w : ℕ) (x : List ℕ) (r low i : ℕ) : Type 0 where
   pub size : length x ≡ length o
-  pub onward : Onward o w (over f (in_order ids)) x r (over f (rising left low ids))
+  pub onward : Onward o w (over f (in_order ids)) x r (over f (rising (length ids - i) low ids))
 
-pub rising_start : {f : ℕ → List (List ℕ)} {ids o : List ℕ} {w : ℕ} → Rising f ids o w o w 0 (length ids)
+pub rising_start : {f : ℕ → List (List ℕ)} {ids o : List ℕ} {w : ℕ} → Rising f ids o w o w 0 0
 unfolding in_order
-rising_start = record { size = refl; onward = onward_start }
+rising_start {ids = ids} = let all : length ids - 0 ≡ length ids = omega arith in record { size = refl; onward = rw all onward_start }
 
 told : (f : ℕ → List (List ℕ)) (ids : List ℕ) (m k : ℕ) → over f (k ∷ rising m k ids) ≡ f k ++ over f (rising (suc m - 1) k ids)
 unfolding over
@@ -34,23 +34,26 @@ turned : (f : ℕ → List (List ℕ)) (ids : List ℕ) (low left k : ℕ) → k
 turned f ids low zero k e n h = absurd (omega arith)
 turned f ids low (suc m) k e n h = ap (λ l. over f l) (rising_turn m low ids k (sym e) (omega arith)) ∙ told f ids m k
 
-pub rising_more : {f : ℕ → List (List ℕ)} {ids o x y : List ℕ} {w r q low left : ℕ} (k : ℕ) → Rising f ids o w x r low left → k ≡ next low 0 ids → (k ≡ 0 → ⊥) → 0 < left
-    → length y ≡ length x → Says x r (f k) y q → Rising f ids o w y q k (left - 1)
-rising_more {f = f} {ids = ids} {low = low} {left = left} k t e n h l s =
-    record { size = l ∙ t.size; onward = onward_step (f k) (over f (rising left low ids)) t.onward (turned f ids low left k e n h) s }
+pub rising_more : {f : ℕ → List (List ℕ)} {ids o x y : List ℕ} {w r q low i : ℕ} (k : ℕ) → Rising f ids o w x r low i → k ≡ next low 0 ids → (k ≡ 0 → ⊥) → i < length ids
+    → length y ≡ length x → Says x r (f k) y q → Rising f ids o w y q k (i + 1)
+rising_more {f = f} {ids = ids} {low = low} {i = i} k t e n h l s =
+    let left = length ids - i in
+    let rest : length ids - (i + 1) ≡ left - 1 = omega arith in
+    record { size = l ∙ t.size; onward = rw rest (onward_step (f k) (over f (rising left low ids)) t.onward (turned f ids low left k e n (omega arith)) s) }
 
 ended : (f : ℕ → List (List ℕ)) (ids : List ℕ) (low left : ℕ) → next low 0 ids ≡ 0 → over f (rising left low ids) ≡ []
 unfolding over rising
 ended f ids low zero e = refl
 ended f ids low (suc m) e = ap (λ l. over f l) (rising_end m low ids e)
 
-pub rising_done : {f : ℕ → List (List ℕ)} {ids o x : List ℕ} {w r low left : ℕ} (k : ℕ) → Rising f ids o w x r low left → k ≡ next low 0 ids → k ≡ 0 → Says o w (over f (in_order ids)) x r
-rising_done {f = f} {ids = ids} {low = low} {left = left} k t e z = onward_end (over f (rising left low ids)) t.onward (ended f ids low left (sym e ∙ z))
+pub rising_done : {f : ℕ → List (List ℕ)} {ids o x : List ℕ} {w r low i : ℕ} (k : ℕ) → Rising f ids o w x r low i → k ≡ next low 0 ids → k ≡ 0 → Says o w (over f (in_order ids)) x r
+rising_done {f = f} {ids = ids} {low = low} {i = i} k t e z = onward_end (over f (rising (length ids - i) low ids)) t.onward (ended f ids low (length ids - i) (sym e ∙ z))
 
-pub rising_over : {f : ℕ → List (List ℕ)} {ids o x : List ℕ} {w r low left : ℕ} → Rising f ids o w x r low left → left ≤ 0 → Says o w (over f (in_order ids)) x r
+pub rising_over : {f : ℕ → List (List ℕ)} {ids o x : List ℕ} {w r low i : ℕ} → Rising f ids o w x r low i → length ids ≤ i → Says o w (over f (in_order ids)) x r
 unfolding over rising
-rising_over {f = f} {ids = ids} {low = low} {left = zero} t h = onward_end [] t.onward refl
-rising_over {f = f} {ids = ids} {low = low} {left = suc m} t h = absurd (omega arith)
+rising_over {f = f} {ids = ids} {low = low} {i = i} t h =
+    let none : length ids - i ≡ 0 = omega arith in
+    onward_end (over f (rising (length ids - i) low ids)) t.onward (rw none refl)
 
 -- what is picked of a column, one place after the other
 picked_at : (p : ℕ → Bool) (i j : ℕ) (xs : List ℕ) → j < length xs → get_or (picked_from p i xs) j 0 ≡ (if p (i + j) then get_or xs j 0 else 0)

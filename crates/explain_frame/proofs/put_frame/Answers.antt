@@ -9,4 +9,4 @@ pub returns : goal.returns
 unfolding ascii frame_texts
 returns c =
     let told = tells_more (tells_more (tells_more (tells_then c.put_count-a.ensures c.put_front-b.ensures) c.put_reply-c.ensures) c.put_sent-d.ensures) c.put_changes.ensures.0 in
-    (tells_as told (λ _. refl), c.put_changes.ensures.1, c.put_changes.ensures.2, c.put_changes.ensures.3)
+    (tells_as told (λ _. refl), c.put_changes.ensures.1)

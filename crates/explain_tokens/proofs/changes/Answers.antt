@@ -1,18 +1,21 @@
--- `explain_tokens::changes` meets its contract: one place after the other. Assumes nothing.
-use mathlib.Core.Path.{refl}
-use borrow.Author.Rules.{rules}
+use mathlib.Core.Path.{refl, ap, ◌∙◌}
+use mathlib.Core.Bool.{Bool}
+use Rattle.std.specs.Prelude.{if◌then◌else◌}
+use lib.ListN.{get_or}
+use Rattle.domain_tables.specs.Held.{tokens_in}
 use Rattle.explain_tokens.proofs.Changing.{changing_start, changing_more, changing_all}
+use borrow.Author.Rules.{rules}
 use Rattle.explain_tokens.proofs.changes.Goals as goal
 
 pub loop-i-init : goal.loop-i-init
-loop-i-init c =
-    changing_start c.args.old_token_ids.now c.args.old_token_states.now c.args.old_token_values.now c.args.token_ids.now c.args.token_states.now c.args.token_values.now _ refl refl
-    (record { keys₀ = search rules; modes₀ = search rules; values₀ = search rules; keys = search rules; modes = search rules; values = search rules })
+loop-i-init c = changing_start refl refl
 
 pub loop-i-preserved : goal.loop-i-preserved
-loop-i-preserved c =
-    changing_more c.args.old_token_ids.now c.args.old_token_states.now c.args.old_token_values.now c.args.token_ids.now c.args.token_states.now c.args.token_values.now _ _ _ _ _ c.loop-i.invariant c.took-told.result _ _ _ c.if_so.result c.if_so-in-loop-i.result c.loop-i-test.true c.took-told.ensures c.if_so.ensures.0 c.if_so-in-loop-i.ensures.0
+loop-i-preserved c = let a = c.args in
+    let told = c.differs-told.ensures in
+    changing_more (tokens_in a.old.now) (tokens_in a.tokens.now) (search rules) (search rules) c.loop-i.invariant c.if_so.result c.if_so-in-loop-i.result c.loop-i-test.true
+    (c.if_so.ensures.0 ∙ ap (λ (b : Bool). if b then get_or a.old.now.ids c.loop-i.i 0 else 0) told)
+    (c.if_so-in-loop-i.ensures.0 ∙ ap (λ (b : Bool). if b then get_or a.tokens.now.ids c.loop-i.i 0 else 0) told)
 
 pub returns : goal.returns
-returns c =
-    changing_all c.args.old_token_ids.now c.args.old_token_states.now c.args.old_token_values.now c.args.token_ids.now c.args.token_states.now c.args.token_values.now _ _ _ _ _ c.loop-i.invariant c.loop-i-test.false
+returns c = let a = c.args in changing_all (tokens_in a.old.now) (tokens_in a.tokens.now) (search rules) (search rules) c.loop-i.invariant c.loop-i-test.false

@@ -10,7 +10,7 @@ loop-i-init c = filled_start refl
 
 pub loop-i-preserved : goal.loop-i-preserved
 loop-i-preserved c =
-    picked_more (has c.args.us) c.args.user_ids.now c.if_so.result (search rules) c.loop-i.invariant c.loop-i-test.true (rw (← c.has.ensures) c.if_so.ensures.0)
+    picked_more (has c.args.us) c.args.users.now.ids c.if_so.result (search rules) c.loop-i.invariant c.loop-i-test.true (rw (← c.has.ensures) c.if_so.ensures.0)
 
 pub returns : goal.returns
-returns c = picked_all (has c.args.us) c.args.user_ids.now (search rules) c.loop-i.invariant c.loop-i-test.false
+returns c = picked_all (has c.args.us) c.args.users.now.ids (search rules) c.loop-i.invariant c.loop-i-test.false

@@ -1,9 +1,7 @@
--- `explain_tokens::put_changes` meets its contract. Assumes nothing.
+use mathlib.Core.Path.{refl}
 use Rattle.explain_tokens.specs.Holders.{change_texts}
 use Rattle.explain_tokens.proofs.put_changes.Goals as goal
 
 pub returns : goal.returns
 unfolding change_texts
-returns c =
-    let made = c.changes-list.ensures in
-    (rw made.0 at c.put_tokens.ensures, made.1, made.2, made.3)
+returns c = (rw c.changes-list.ensures at c.put_tokens.ensures, rw (c.copy_from_slice.ensures.after, c.copy_from_slice-2.ensures.after, c.copy_from_slice-3.ensures.after) refl)
