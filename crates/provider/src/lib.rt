@@ -42,20 +42,7 @@ pub fn message(d: &mut Domain, p: u8, octets: &[u8], out: &mut [u8]) -> Answer
         };
     }
     if let Some(w) = codec_read_fast::tokens::read_token(octets) {
-        return serve_tokens::request(
-            d.limits,
-            &mut d.users.ids,
-            &mut d.users.links,
-            &mut d.tokens.ids,
-            &mut d.tokens.states,
-            &mut d.tokens.values,
-            p,
-            w.number,
-            w.user,
-            w.token,
-            w.more,
-            out,
-        );
+        return serve_tokens::request(d, p, w.number, w.user, w.token, w.more, out);
     }
     if let Some(q) = codec_read_fast::read_short(octets) {
         return serve_dispatch::brief_request(d, p, q.number, q.first, q.second, out);

@@ -143,13 +143,9 @@ fn show(
             s,
             report,
             room,
-            &d.users.ids,
-            &d.tokens.ids,
-            &d.tokens.states,
-            &d.tokens.values,
-            &mut old_tokens.ids,
-            &mut old_tokens.states,
-            &mut old_tokens.values,
+            &d.users,
+            &d.tokens,
+            old_tokens,
         ),
     }
 }
@@ -159,14 +155,7 @@ fn show_end(output: &mut [u8], filled: usize, form: Form, d: &Domain) -> usize {
     match form {
         Form::Lines => filled,
         Form::Sent => filled,
-        Form::Words => explain_tokens::put_table(
-            output,
-            filled,
-            &d.users.ids,
-            &d.tokens.ids,
-            &d.tokens.states,
-            &d.tokens.values,
-        ),
+        Form::Words => explain_tokens::put_table(output, filled, &d.users, &d.tokens),
     }
 }
 

@@ -15,7 +15,7 @@ pub returns-in-Some : goal.returns-in-Some
 returns-in-Some c =
     let a = c.args in
     let os = a.octets.now in
-    c.request.ensures _ _ _
+    c.request.ensures _
     ∙ open_served _ a.p _ _ c.is_open.ensures c.if-not-is_open.false (understood os) _
     (token_asks os (bytes_at os (λ i. omega (arith, c.type_inv.octets i))) c.in-Some.w c.in-Some.ensures (search rules) (search rules) (search rules) _ _ _ _)
 
