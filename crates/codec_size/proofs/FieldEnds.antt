@@ -91,9 +91,6 @@ pub record Ending (fs : List Field) (vs : List ℕ) (from at i : ℕ) : Type 0 w
   pub low : at ≤ 8 + 48 * i
   pub same : fields_upto fs vs from ≡ fields_upto (drop i fs) (drop i vs) at
 
-pub ending_none : (fs : List Field) (vs : List ℕ) (from : ℕ) → from ≤ 8 → Ending fs vs from from 0
-ending_none fs vs from h = record { within = omega arith; low = h; same = refl }
-
 upto_not : (f : Field) (fs : List Field) (v : ℕ) (vs : List ℕ) (at n : ℕ) → refuse n ≡ field_upto f v at → fields_upto (f ∷ fs) (v ∷ vs) at ≡ refuse n
 unfolding field_upto fields_upto
 upto_not f fs v vs at n e = go (fits_field f v) refl e

@@ -3,7 +3,6 @@ use mathlib.Core.Path.{◌≡◌, refl, sym, ap, ◌∙◌}
 use mathlib.Core.Bool.{Bool, true, false, cond, ◌&&◌, not}
 use mathlib.Core.List.{List, [], ◌∷◌}
 use Prim.Native.Nat.{ℕ, suc, ◌+◌, ◌*◌, ◌<◌, ◌≤◌}
-use native.Mathlib.Numerals.{add-one}
 use native.Mathlib.Nat.{zero-mul, mul-le-mul_left}
 use native.Mathlib.Omega.{arith}
 use lib.ListN.{length, get_or, drop, drop_of_length-le, length-append}
@@ -51,10 +50,6 @@ items_width k (v ∷ vs) =
 is_false : (t : Bool) → not t ≡ true → t ≡ false
 is_false false e = refl
 is_false true e = cc
-
-is_true : (t : Bool) → not t ≡ false → t ≡ true
-is_true true e = refl
-is_true false e = sym e
 
 no_both : (a : Bool) → a && false ≡ false
 no_both true = refl
@@ -130,9 +125,6 @@ pub record Checking (k : ℕ) (items : List ℕ) (n i : ℕ) : Type 0 where
   pub some : k ≡ 0 → ⊥
   pub same : fits_items (item_of k) items ≡ fits_items (item_of k) (drop i items)
 
-pub checking_none : (k : ℕ) (items : List ℕ) (n limit : ℕ) → n ≡ length items → limit ≡ limit_of k → n ≤ limit → (k ≡ 0 → ⊥) → Checking k items n 0
-checking_none k items n limit e f h z = record { all = e; within = omega arith; few = omega arith; some = z; same = refl }
-
 module _ {k : ℕ} {items : List ℕ} {n i : ℕ} (o : Checking k items n i) where
   checking_at : i < n → i < length items
   checking_at h = omega (arith, o.all)
@@ -142,10 +134,6 @@ module _ {k : ℕ} {items : List ℕ} {n i : ℕ} (o : Checking k items n i) whe
 
   pub checking_bad : i < n → (v : ℕ) → v ≡ get_or items i 0 → (t : Bool) → t ≡ fits_item (item_of k) v → not t ≡ true → (refuse 8 ≡ tail_upto (tail_of k) items) × Unit {0}
   checking_bad h v e t f g = (rw (tail_list k o.some) (item_bad (item_of k) (limit_of k) items (next h v e ∙ rw (← f, is_false t g))), tt)
-
-  pub checking_more : i < n → (v : ℕ) → v ≡ get_or items i 0 → (t : Bool) → t ≡ fits_item (item_of k) v → not t ≡ false → Checking k items n (i + 1)
-  checking_more h v e t f g =
-      record { all = o.all; within = omega arith; few = o.few; some = o.some; same = rw add-one (next h v e ∙ rw (← f, is_true t g)) }
 
   pub checking_all : n ≤ i → (l w : ℕ) → (l ≡ length (length_octets n)) × (l ≤ 2) → (w ≡ width_of k) × (w ≤ 2) → n < 16384 → (ok (l + n * w) ≡ tail_upto (tail_of k) items) × (l + n * w ≤ 40000)
   checking_all h l w p q m =
