@@ -39,8 +39,7 @@ pub fn ignored() -> Answer
 pub fn refused(a: Answer) -> bool
     ensures { result ≡ eqb (reply_number a.reply) 9 }
 {
-    let reply = a.reply;
-    domain_state::numbers::reply_number(reply) == 9
+    a.reply == Reply::NoRoom
 }
 
 // A message to p, where there is room for its record.
