@@ -1,28 +1,42 @@
 -- AUrq and CJrq by cases: what each way through the code has shown is what the request does. Assumes nothing.
 use mathlib.Core.Path.{◌≡◌, refl, sym, ap, ◌∙◌}
-use mathlib.Core.Bool.{Bool, true, false}
+use mathlib.Core.Bool.{Bool, true, false, not}
 use mathlib.Core.List.{List, [], ◌∷◌}
 use mathlib.Core.Option.{none, some}
 use Prim.Native.Nat.{ℕ, zero, suc, ◌≤◌, ◌<◌}
 use native.Mathlib.Omega.{arith}
 use borrow.Author.Tests.{lt-ltb, le-ltb, eq-eqb, ne_eqb}
+use denote.Enum.Bare.{sameb}
 use lib.Dec.{eqb}
 use lib.ListN.{get_or}
 use Rattle.cols_spec.specs.Sets.{with, only, connections}
 use Rattle.cols_spec.specs.Places.{Place, At, Nowhere, find}
-use Rattle.codec_table.specs.Named.{AUcf, CJcf, successful, no_such_channel, too_many_channels, too_many_users}
+use Rattle.codec_table.specs.Named.{AUrq, AUcf, CJrq, CJcf, successful, no_such_channel, too_many_channels, too_many_users}
 use Rattle.out_records.specs.Records.{to}
 use Rattle.domain.specs.declared.channel.Kind.{Kind}
 use Rattle.domain.specs.declared.channel.Kind.TheVariants.{Static, User, Assigned}
 use Rattle.domain.specs.declared.channel.Channel.{Channel}
+use Rattle.domain.specs.declared.numbers.Result.{Result}
+use Rattle.domain.specs.declared.numbers.Result.TheVariants.{Successful, NoSuchChannel, NoSuchUser, NotAdmitted, OtherUserId, TokenNotAvailable, TokenNotPossessed, TooManyChannels, TooManyTokens, TooManyUsers}
+use Rattle.domain.specs.contracts.numbers.Result.{the_type}
+use Rattle.domain.specs.Numbers.{result_number}
 use Rattle.domain.specs.Cells.{no_channel, kind, channel_of, with_marks}
-use Rattle.domain.specs.Tables.{Users, Channels, attached, add_user, channel, add_channel, set_channel}
+use Rattle.domain.specs.Tables.{Users, Channels, Domain, attached, add_user, channel, add_channel, set_channel, put_channels, put_both, at_limit, grant}
 use Rattle.domain.specs.Effects.{Effect, done, Settled, settled, settle}
 use Rattle.domain.specs.Channels.{attach, may, join_at, join_new, join}
+use Rattle.domain.specs.Events.{act, users_full, channels_full}
+use Rattle.domain.proofs.Requesting.{on_channels, on_both}
 use Rattle.serve_reply.proofs.Sending.{Told, did_nothing, did_refuse, did}
 use Rattle.serve_reply.proofs.Initiators.{from_at, from_nobody}
 
 -- ---- AUrq
+module _ (d : Domain) (p : ℕ) (out : List ℕ) where
+  pub attach_asked : {n l : ℕ} {o : List ℕ} {us : Users} {cs : Channels}
+      → settled {A = Users × Channels} n l (us, cs) o ≡ settle (d.users, d.channels) (attach (grant d.channels) (at_limit d.limits.users d.users.ids) (at_limit d.limits.channels d.channels.ids) d.users d.channels p) out
+      → settled n l (put_both d (us, cs)) o ≡ settle d (act (grant d.channels) d p AUrq) out
+  unfolding act users_full channels_full
+  attach_asked e = on_both d.limits d.links d.users d.channels d.tokens _ p AUrq out _ e refl
+
 module _ (new : ℕ) (us : Users) (cs : Channels) (p n l : ℕ) (out o : List ℕ) where
   pub attach_crowded : (b : Bool) → Told p (AUcf too_many_users none) n l out o → settled n l (us, cs) o ≡ settle (us, cs) (attach new true b us cs p) out
   unfolding attach
@@ -44,6 +58,32 @@ module _ (new : ℕ) (us : Users) (cs : Channels) (p n l : ℕ) (out o : List �
         did _ _ e (us, cs) (us', cs') (add_user us new p, add_channel cs new (channel_of User 0)) (λ i. (x i, (y ∙ ap (add_channel cs new) z) i)) h
 
 -- ---- CJrq for the channel at place j
+
+-- a result is success or a number from 1 up
+pub fails : (r : Result) → true ≡ not (sameb the_type r Successful) → 0 < result_number r
+fails Successful h = cc
+fails NoSuchChannel h = omega arith
+fails NoSuchUser h = omega arith
+fails NotAdmitted h = omega arith
+fails OtherUserId h = omega arith
+fails TokenNotAvailable h = omega arith
+fails TokenNotPossessed h = omega arith
+fails TooManyChannels h = omega arith
+fails TooManyTokens h = omega arith
+fails TooManyUsers h = omega arith
+
+pub succeeds : (r : Result) → false ≡ not (sameb the_type r Successful) → result_number r ≡ 0
+succeeds Successful h = refl
+succeeds NoSuchChannel h = cc
+succeeds NoSuchUser h = cc
+succeeds NotAdmitted h = cc
+succeeds OtherUserId h = cc
+succeeds TokenNotAvailable h = cc
+succeeds TokenNotPossessed h = cc
+succeeds TooManyChannels h = cc
+succeeds TooManyTokens h = cc
+succeeds TooManyUsers h = cc
+
 join_no : (cs : Channels) (p u c j n : ℕ) → 0 < n → join_at cs p u c j n ≡ done cs (to p (CJcf n u c none) ∷ [])
 unfolding join_at
 join_no cs p u c j zero h = absurd (omega arith)
@@ -99,6 +139,13 @@ module _ (new : ℕ) (full : Bool) (cs : Channels) (p u c : ℕ) where
     new_static z x y = rw (le-ltb 1000 c h, f, ne_eqb c 0 z, ← x) (rw y at e)
 
 -- ---- CJrq
+module _ (d : Domain) (p u c : ℕ) (out : List ℕ) where
+  pub join_asked : {n l : ℕ} {o : List ℕ} {cs : Channels}
+      → settled n l cs o ≡ settle d.channels (join (grant d.channels) (at_limit d.limits.channels d.channels.ids) d.users d.channels p u c) out
+      → settled n l (put_channels d cs) o ≡ settle d (act (grant d.channels) d p (CJrq u c)) out
+  unfolding act channels_full
+  join_asked e = on_channels d.limits d.links d.users d.channels d.tokens _ p (CJrq u c) out _ e refl
+
 module _ (new : ℕ) (full : Bool) (us : Users) (cs : Channels) (p u c : ℕ) (out : List ℕ) where
   pub join_nobody : attached us p u ≡ Nowhere → settled 1 0 cs out ≡ settle cs (join new full us cs p u c) out
   unfolding join settle

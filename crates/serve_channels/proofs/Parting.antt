@@ -1,23 +1,24 @@
 -- CLrq: whether p had joined a listed channel, and what becomes of one place. Assumes nothing.
 use Rattle.std.specs.Prelude.{if◌then◌else◌}
 use mathlib.Core.Path.{◌≡◌, refl, sym, ap, ◌∙◌}
-use mathlib.Core.Bool.{Bool, true, false, ◌&&◌}
-use mathlib.Core.List.{List}
+use mathlib.Core.Bool.{Bool, true, false, ◌&&◌, ◌||◌}
+use mathlib.Core.List.{List, [], ◌∷◌}
 use mathlib.Core.Option.{none, some}
-use Prim.Native.Nat.{ℕ, ◌+◌, ◌≤◌, ◌<◌}
-use native.Mathlib.Numerals.{add-one}
-use borrow.Author.Tests.{eq-eqb, ne_eqb}
+use Prim.Native.Nat.{ℕ}
 use lib.Dec.{eqb}
-use lib.ListN.{length, get_or, drop, drop_of_length-le}
-use lib.Seq.{drop-cons}
+use lib.ListN.{get_or}
+use Rattle.std.specs.List.{list_any}
 use Rattle.cols_spec.specs.Sets.{any, member, has, without, connections}
 use Rattle.cols_spec.specs.Places.{Place, At, Nowhere, find, load}
 use Rattle.cols_spec.proofs.Marks.{has_none}
 use Rattle.domain.specs.declared.channel.Channel.{Channel}
 use Rattle.domain.specs.Cells.{no_channel, kind, with_marks}
-use Rattle.domain.specs.Tables.{Channels, sweep_channels, lapses, narrowed}
+use Rattle.domain.specs.Tables.{Channels, Domain, sweep_channels, lapses, narrowed, put_channels, grant}
 use Rattle.domain.specs.Effects.{settled, settle}
 use Rattle.domain.specs.Channels.{joined, left, leave_channels}
+use Rattle.domain.specs.Events.{act}
+use Rattle.codec_table.specs.Named.{CLrq}
+use Rattle.domain.proofs.Requesting.{on_channels}
 use Rattle.domain.proofs.Effects.{delivers_none}
 
 -- ---- had p joined
@@ -31,28 +32,11 @@ module _ (cs : Channels) (p c : ℕ) where
   unfolding joined load
   joined_nowhere e = sym (ap (λ (w : Place). has (load cs.cells w no_channel).marks p) e ∙ has_none p)
 
--- a loop over a list that looks for one that passes
-module _ (f : ℕ → Bool) (xs : List ℕ) (i : ℕ) where
-  pub any_here : i < length xs → f (get_or xs i 0) ≡ true → any f (drop i xs) ≡ true
-  unfolding any
-  any_here h e = rw (drop-cons xs i 0 h) (rw e refl)
-
-  pub any_later : i < length xs → f (get_or xs i 0) ≡ false → any f (drop i xs) ≡ any f (drop (i + 1) xs)
-  unfolding any
-  any_later h e = rw (drop-cons xs i 0 h, add-one i) (rw e refl)
-
-  pub any_over : length xs ≤ i → any f (drop i xs) ≡ false
-  unfolding any
-  any_over h = rw (drop_of_length-le xs h) refl
-
--- ---- a channel ends
-pub ends_empty : (b : Bool) (left : ℕ) → left ≡ 0 → b ≡ (b && eqb left 0)
-ends_empty true left e = sym (eq-eqb left 0 e)
-ends_empty false left e = refl
-
-pub ends_not : (b : Bool) (left : ℕ) → (left ≡ 0 → ⊥) → false ≡ (b && eqb left 0)
-ends_not true left e = sym (ne_eqb left 0 e)
-ends_not false left e = refl
+-- the library's word for it
+pub any_is : (f : ℕ → Bool) (xs : List ℕ) → list_any f xs ≡ any f xs
+unfolding any
+any_is f [] = refl
+any_is f (x ∷ xs) = ap (λ (b : Bool). f x || b) (any_is f xs)
 
 -- ---- one place
 module _ (p : ℕ) (listed : List ℕ) (c : ℕ) (at : Channel) where
@@ -74,11 +58,17 @@ module _ (p : ℕ) (listed : List ℕ) (c : ℕ) (at : Channel) where
     left_stays t = rw t at goes
 
 -- ---- CLrq
-module _ (cs : Channels) (p : ℕ) (listed short : List ℕ) (out : List ℕ) (same : short ≡ listed) where
-  pub leave_done : true ≡ any (joined cs p) short → (cs' : Channels) → cs' ≡ sweep_channels (left p short) cs → settled 0 0 cs' out ≡ settle cs (leave_channels cs p listed) out
-  unfolding leave_channels settle
-  leave_done h cs' e = rw (← same, ← h, e) (delivers_none 0 cs (sweep_channels (left p short) cs) out)
+module _ (d : Domain) (p : ℕ) (listed out : List ℕ) where
+  pub leave_asked : {n l : ℕ} {o : List ℕ} {cs : Channels} → settled n l cs o ≡ settle d.channels (leave_channels d.channels p listed) out
+      → settled n l (put_channels d cs) o ≡ settle d (act (grant d.channels) d p (CLrq listed)) out
+  unfolding act
+  leave_asked e = on_channels d.limits d.links d.users d.channels d.tokens (grant d.channels) p (CLrq listed) out _ e refl
 
-  pub leave_ignored : false ≡ any (joined cs p) short → settled 1 0 cs out ≡ settle cs (leave_channels cs p listed) out
+module _ (cs : Channels) (p : ℕ) (listed out : List ℕ) where
+  pub leave_done : true ≡ any (joined cs p) listed → (cs' : Channels) → cs' ≡ sweep_channels (left p listed) cs → settled 0 0 cs' out ≡ settle cs (leave_channels cs p listed) out
   unfolding leave_channels settle
-  leave_ignored h = rw (← same, ← h) refl
+  leave_done h cs' e = rw (← h, e) (delivers_none 0 cs (sweep_channels (left p listed) cs) out)
+
+  pub leave_ignored : false ≡ any (joined cs p) listed → settled 1 0 cs out ≡ settle cs (leave_channels cs p listed) out
+  unfolding leave_channels settle
+  leave_ignored h = rw (← h) refl

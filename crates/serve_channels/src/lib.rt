@@ -1,426 +1,226 @@
-// Requests about users and channels, on lent columns: AUrq, CJrq, CLrq. Each decides, sends where there is room, then stores.
+// Requests about users and channels: AUrq, CJrq, CLrq. Each decides, sends where there is room, then stores.
 #![tactic(auto)]
 
-ghost use Rattle.std.specs.Prelude.{◌≡◌, ◌&&◌, List, [], ◌∷◌, ℕ, ◌<◌, eqb, take, length};
-ghost use Rattle.std.proofs.Math.Option.{some};
-ghost use Rattle.codec_table.specs.Named.{CJcf, successful};
+ghost use Rattle.std.specs.Prelude.{◌≡◌, ◌&&◌, [], ◌∷◌, ◌<◌, eqb};
+ghost use Rattle.codec_table.specs.Named.{AUrq, CJrq, CLrq, CJcf};
 ghost use Rattle.cols_spec.specs.Sets.{any, only, connections as all_links};
 ghost use Rattle.cols_spec.specs.Swept.{Turns, anywhere};
 ghost use Rattle.out_records.specs.Records.{to};
 ghost use Rattle.domain.specs.Cells.{no_channel, kind, channel_of};
-ghost use Rattle.domain.specs.Tables.{Users, Channels, channel, add_channel, sweep_channels, lapses, at_limit, grant};
-ghost use Rattle.domain.specs.Lent.{cells_after, cells_before, cells_now, channels_after, channels_after_with, channels_before, channels_before_with, channels_now, users_after, users_before, users_now};
-ghost use Rattle.domain.specs.Effects.{done, settle, answered};
-ghost use Rattle.domain.specs.Channels.{attach as attach_of, join as join_of, join_at, join_new, may, joined as joined_in, left, leave_channels as leave_of};
+ghost use Rattle.domain.specs.Tables.{channel, add_channel, sweep_channels, lapses, at_limit, grant};
+ghost use Rattle.domain.specs.Effects.{done, settle, answered, delivers};
+ghost use Rattle.domain.specs.Channels.{join_at, join_new, may, joined as joined_in, left};
+ghost use Rattle.domain.specs.Events.{act};
+ghost use Rattle.domain_tables.specs.Held.{domain_in, channels_in, cells_in};
+ghost use Rattle.serve_reply.specs.Granted.{code, id};
 
 use cols_masks::Mask;
 use domain::answer::Answer;
 use domain::channel::{Channel, Kind};
-use domain::numbers::{Reply, Result};
+use domain::numbers;
+use domain::numbers::Reply;
+use domain_tables::{Channels, Domain, Members};
 use serve_reply::confirms;
 
 // AUrq on p.
-pub fn attach(
-    user_ids: &mut [u16; 64],
-    user_links: &mut [u8; 64],
-    channel_ids: &mut [u16; 128],
-    channel_kinds: &mut [u8; 128],
-    managers: &mut [u8; 128],
-    admitted: &mut [u64; 128],
-    joined: &mut [u16; 128],
-    userlimit: u8,
-    limit: u8,
-    p: u8,
-    out: &mut [u8],
-) -> Answer
-    ensures { let us = users_before user_ids user_links in
-        let cs = channels_before channel_ids channel_kinds managers admitted joined in
-        answered {A = Users × Channels} result (users_after user_ids user_links, channels_after channel_ids channel_kinds managers admitted joined) out.new
-        ≡ settle (us, cs) (attach_of (grant cs) (at_limit userlimit us.ids) (at_limit limit cs.ids) us cs p) out.old }
+pub fn attach(d: &mut Domain, p: u8, out: &mut [u8]) -> Answer
+    ensures { let old = domain_in d.old in
+        answered result (domain_in d.new) out.new ≡ settle old (act (grant old.channels) old p AUrq) out.old }
 {
-    if domain_tables::at_limit(userlimit, user_ids) {
-        return confirms::deny_user(out, p, Result::TooManyUsers);
+    if domain_tables::at_limit(d.limits.users, &d.users.ids) {
+        return confirms::user(out, p, Err(numbers::Result::TooManyUsers));
     }
-    if domain_tables::at_limit(limit, channel_ids) {
-        return confirms::deny_user(out, p, Result::TooManyChannels);
+    if domain_tables::at_limit(d.limits.channels, &d.channels.ids) {
+        return confirms::user(out, p, Err(numbers::Result::TooManyChannels));
     }
-    let new = cols_walk::unused(channel_ids);
-    let a = confirms::take_user(out, p, new);
+    let new = cols_walk::unused(&d.channels.ids);
+    let a = confirms::user(out, p, Ok(new));
     if serve_reply::refused(a) {
         return a;
     }
-    domain_tables::users::add_user(user_ids, user_links, new, p);
+    d.users.add(new, p);
     let ch = domain_state::channel::new_channel(Kind::User, 0);
-    domain_tables::channels::add_channel(
-        channel_ids,
-        channel_kinds,
-        managers,
-        admitted,
-        joined,
-        new,
-        ch,
-    );
+    d.channels.add(&mut d.members, new, ch);
     a
 }
 
-// CJrq for the channel at place j, by the user u at place i.
-fn join_at(
-    channel_kinds: &mut [u8; 128],
-    managers: &mut [u8; 128],
-    admitted: &mut [u64; 128],
-    joined: &mut [u16; 128],
+// What a CJrq asks: user u on connection p would join channel c.
+#[derive(Clone, Copy)]
+struct Ask {
     p: u8,
     u: u16,
     c: u16,
+}
+
+impl Ask {
+    fn confirm(self, out: &mut [u8], granted: Result<u16, numbers::Result>) -> Answer
+        ensures { answered {A = Unit {0}} result tt out.new ≡ delivers 0 tt tt (to self.p (CJcf (code granted) self.u self.c (id granted)) ∷ []) out.old }
+    {
+        confirms::join(out, self.p, self.u, self.c, granted)
+    }
+}
+
+// CJrq for the channel at place j, by the user at place i.
+fn join_at(
+    channels: &mut Channels,
+    members: &mut Members,
+    ask: Ask,
     i: u8,
     j: usize,
     out: &mut [u8],
 ) -> Answer
-    ensures { (ids : List ℕ) → answered result (channels_after_with ids channel_kinds managers admitted joined) out.new
-        ≡ settle (channels_before_with ids channel_kinds managers admitted joined)
-        (join_at (channels_before_with ids channel_kinds managers admitted joined) p u c j
-        (may (kind (channel (channels_before_with ids channel_kinds managers admitted joined) j)) c u i)) out.old }
+    ensures { let cs = channels_in channels.old members.old in
+        answered result (channels_in channels.new members.new) out.new
+        ≡ settle cs (join_at cs ask.p ask.u ask.c j (may (kind (channel cs j)) ask.c ask.u i)) out.old }
 {
-    let ch = domain_tables::channels::channel_at(channel_kinds, managers, admitted, joined, j);
-    let result = domain_state::channel::may_join(domain_state::channel::kind_of(ch), c, u, i);
-    if 0 < domain_state::numbers::result_number(result) {
-        return confirms::deny_join(out, p, result, u, c);
+    let ch = channels.at(members, j);
+    let res = domain_state::channel::may_join(domain_state::channel::kind_of(ch), ask.c, ask.u, i);
+    let denied = res != numbers::Result::Successful;
+    if denied {
+        return ask.confirm(out, Err(res));
     }
-    let a = confirms::take_join(out, p, u, c, c);
+    let a = ask.confirm(out, Ok(ask.c));
     if serve_reply::refused(a) {
         return a;
     }
     let now = Channel {
-        role: ch.role,
-        chair: ch.chair,
-        guests: ch.guests,
-        marks: ch.marks.with(p),
+        marks: ch.marks.with(ask.p),
+        ..ch
     };
-    domain_tables::channels::set_channel(channel_kinds, managers, admitted, joined, j, now);
+    channels.put(members, j, now);
     a
 }
 
 // A new channel of a kind, which p has joined.
 fn start(
-    channel_ids: &mut [u16; 128],
-    channel_kinds: &mut [u8; 128],
-    managers: &mut [u8; 128],
-    admitted: &mut [u64; 128],
-    joined: &mut [u16; 128],
+    channels: &mut Channels,
+    members: &mut Members,
     k: Kind,
     new: u16,
-    p: u8,
-    u: u16,
-    c: u16,
+    ask: Ask,
     out: &mut [u8],
 ) -> Answer
-    ensures { let cs = channels_before channel_ids channel_kinds managers admitted joined in
-        answered result (channels_after channel_ids channel_kinds managers admitted joined) out.new
-        ≡ settle cs (done (add_channel cs new (channel_of k (only all_links p))) (to p (CJcf successful u c (some new)) ∷ [])) out.old }
+    ensures { let cs = channels_in channels.old members.old in
+        answered result (channels_in channels.new members.new) out.new
+        ≡ settle cs (done (add_channel cs new (channel_of k (only all_links ask.p))) (to ask.p (CJcf 0 ask.u ask.c (id (Ok new))) ∷ [])) out.old }
 {
-    let a = confirms::take_join(out, p, u, c, new);
+    let a = ask.confirm(out, Ok(new));
     if serve_reply::refused(a) {
         return a;
     }
-    let ch = domain_state::channel::new_channel(k, u16::only(p));
-    domain_tables::channels::add_channel(
-        channel_ids,
-        channel_kinds,
-        managers,
-        admitted,
-        joined,
-        new,
-        ch,
-    );
+    let ch = domain_state::channel::new_channel(k, u16::only(ask.p));
+    channels.add(members, new, ch);
     a
 }
 
-// CJrq for a channel not in use.
+// CJrq for a channel not in use, where so many channels may be.
 fn join_new(
-    channel_ids: &mut [u16; 128],
-    channel_kinds: &mut [u8; 128],
-    managers: &mut [u8; 128],
-    admitted: &mut [u64; 128],
-    joined: &mut [u16; 128],
+    channels: &mut Channels,
+    members: &mut Members,
     limit: u8,
-    p: u8,
-    u: u16,
-    c: u16,
+    ask: Ask,
     out: &mut [u8],
 ) -> Answer
-    ensures { let cs = channels_before channel_ids channel_kinds managers admitted joined in
-        answered result (channels_after channel_ids channel_kinds managers admitted joined) out.new
-        ≡ settle cs (join_new (grant cs) (at_limit limit cs.ids) cs p u c) out.old }
+    ensures { let cs = channels_in channels.old members.old in
+        answered result (channels_in channels.new members.new) out.new
+        ≡ settle cs (join_new (grant cs) (at_limit limit cs.ids) cs ask.p ask.u ask.c) out.old }
 {
-    if 1000 < c {
-        return confirms::deny_join(out, p, Result::NoSuchChannel, u, c);
+    if 1000 < ask.c {
+        return ask.confirm(out, Err(numbers::Result::NoSuchChannel));
     }
-    if domain_tables::at_limit(limit, channel_ids) {
-        return confirms::deny_join(out, p, Result::TooManyChannels, u, c);
+    if domain_tables::at_limit(limit, &channels.ids) {
+        return ask.confirm(out, Err(numbers::Result::TooManyChannels));
     }
     // A static channel; where c is 0, an assigned one with an id of its own.
-    let mut kind = Kind::Static;
-    let mut new = c;
-    if c == 0 {
-        kind = Kind::Assigned;
-        new = cols_walk::unused(channel_ids);
-    }
-    start(
-        channel_ids,
-        channel_kinds,
-        managers,
-        admitted,
-        joined,
-        kind,
-        new,
-        p,
-        u,
-        c,
-        out,
-    )
+    let (kind, new) = if ask.c == 0 {
+        (Kind::Assigned, cols_walk::unused(&channels.ids))
+    } else {
+        (Kind::Static, ask.c)
+    };
+    start(channels, members, kind, new, ask, out)
 }
 
 // CJrq by u on p for channel c.
-pub fn join(
-    user_ids: &[u16; 64],
-    user_links: &[u8; 64],
-    channel_ids: &mut [u16; 128],
-    channel_kinds: &mut [u8; 128],
-    managers: &mut [u8; 128],
-    admitted: &mut [u64; 128],
-    joined: &mut [u16; 128],
-    limit: u8,
-    p: u8,
-    u: u16,
-    c: u16,
-    out: &mut [u8],
-) -> Answer
-    ensures { let cs = channels_before channel_ids channel_kinds managers admitted joined in
-        answered result (channels_after channel_ids channel_kinds managers admitted joined) out.new
-        ≡ settle cs (join_of (grant cs) (at_limit limit cs.ids) (users_now user_ids user_links) cs p u c) out.old }
+pub fn join(d: &mut Domain, p: u8, u: u16, c: u16, out: &mut [u8]) -> Answer
+    ensures { let old = domain_in d.old in
+        answered result (domain_in d.new) out.new ≡ settle old (act (grant old.channels) old p (CJrq u c)) out.old }
 {
-    let i = serve_reply::initiator(user_ids, user_links, p, u);
-    if 64 <= i {
+    let Some(i) = d.users.attached(p, u) else {
         return serve_reply::ignored();
+    };
+    let ask = Ask { p, u, c };
+    match d.channels.find(c) {
+        Some(j) => join_at(&mut d.channels, &mut d.members, ask, i, j, out),
+        None => join_new(&mut d.channels, &mut d.members, d.limits.channels, ask, out),
     }
-    let j = cols_find::find(channel_ids, c);
-    if j < 128 {
-        return join_at(
-            channel_kinds,
-            managers,
-            admitted,
-            joined,
-            p,
-            u,
-            c,
-            i as u8,
-            j,
-            out,
-        );
-    }
-    join_new(
-        channel_ids,
-        channel_kinds,
-        managers,
-        admitted,
-        joined,
-        limit,
-        p,
-        u,
-        c,
-        out,
-    )
 }
 
 // p has joined channel c.
-fn is_joined(
-    channel_ids: &[u16; 128],
-    channel_kinds: &[u8; 128],
-    managers: &[u8; 128],
-    admitted: &[u64; 128],
-    joined: &[u16; 128],
-    p: u8,
-    c: u16,
-) -> bool
-    ensures { result ≡ joined_in (channels_now channel_ids channel_kinds managers admitted joined) p c }
+fn is_joined(channels: &Channels, members: &Members, p: u8, c: u16) -> bool
+    ensures { result ≡ joined_in (channels_in channels.now members.now) p c }
 {
-    let j = cols_find::find(channel_ids, c);
-    if j < 128 {
-        let ch = domain_tables::channels::channel_at(channel_kinds, managers, admitted, joined, j);
-        return cols_masks::has(ch.marks as u64, p);
+    match channels.find(c) {
+        Some(j) => cols_masks::has(channels.at(members, j).marks as u64, p),
+        None => false,
     }
-    false
 }
 
 // p has joined one of the listed channels.
-fn any_joined(
-    channel_ids: &[u16; 128],
-    channel_kinds: &[u8; 128],
-    managers: &[u8; 128],
-    admitted: &[u64; 128],
-    joined: &[u16; 128],
-    p: u8,
-    listed: &[u16],
-) -> bool
-    ensures { result ≡ any (joined_in (channels_now channel_ids channel_kinds managers admitted joined) p) listed.now }
+fn any_joined(channels: &Channels, members: &Members, p: u8, listed: &[u16]) -> bool
+    ensures { result ≡ any (joined_in (channels_in channels.now members.now) p) listed.now }
 {
-    let mut i = 0;
-    while i < listed.len() {
-        if is_joined(
-            channel_ids,
-            channel_kinds,
-            managers,
-            admitted,
-            joined,
-            p,
-            listed[i],
-        ) {
-            return true;
-        }
-        i += 1;
-    }
-    false
+    listed.iter().any(|&c| is_joined(channels, members, p, c))
 }
 
 // A channel with these connections joined ends.
 fn ends(ch: Channel, left: u16) -> bool
     ensures { result ≡ (lapses (kind ch) && eqb left 0) }
 {
-    if left == 0 {
-        return domain_state::channel::lapses(domain_state::channel::kind_of(ch));
-    }
-    false
+    left == 0 && domain_state::channel::lapses(domain_state::channel::kind_of(ch))
 }
 
 // p leaves the channel at place j, where that is listed.
-fn leave_at(
-    channel_ids: &mut [u16; 128],
-    channel_kinds: &mut [u8; 128],
-    managers: &mut [u8; 128],
-    admitted: &mut [u64; 128],
-    joined: &mut [u16; 128],
-    p: u8,
-    listed: &[u16],
-    j: usize,
-)
+fn leave_at(channels: &mut Channels, members: &mut Members, p: u8, listed: &[u16], j: usize)
     requires { j < 128 }
     ensures { Turns no_channel (anywhere (left p listed.now)) j
-        channel_ids.old (cells_before channel_kinds managers admitted joined)
-        channel_ids.new (cells_after channel_kinds managers admitted joined) }
+        channels.old.ids (cells_in channels.old members.old)
+        channels.new.ids (cells_in channels.new members.new) }
 {
-    let c = channel_ids[j];
+    let c = channels.ids[j];
     if c == 0 {
         return;
     }
     if cols_walk::member(listed, c) {
-        let ch = domain_tables::channels::channel_at(channel_kinds, managers, admitted, joined, j);
+        let ch = channels.at(members, j);
         let left = ch.marks.without(p);
         if ends(ch, left) {
-            domain_tables::channels::end_channel(
-                channel_ids,
-                channel_kinds,
-                managers,
-                admitted,
-                joined,
-                j,
-            );
+            channels.end(members, j);
             return;
         }
-        let now = Channel {
-            role: ch.role,
-            chair: ch.chair,
-            guests: ch.guests,
-            marks: left,
-        };
-        domain_tables::channels::set_channel(channel_kinds, managers, admitted, joined, j, now);
+        channels.put(members, j, Channel { marks: left, ..ch });
     }
 }
 
-// How many places there are.
-fn width(
-    channel_ids: &[u16; 128],
-    channel_kinds: &[u8; 128],
-    managers: &[u8; 128],
-    admitted: &[u64; 128],
-    joined: &[u16; 128],
-) -> usize
-    ensures { (result ≡ 128) × (length channel_ids.now ≡ 128) × (length (cells_now channel_kinds managers admitted joined) ≡ 128) }
+// p leaves each listed channel: from one place in use to the next.
+fn leave_all(channels: &mut Channels, members: &mut Members, p: u8, listed: &[u16])
+    ensures { channels_in channels.new members.new ≡ sweep_channels (left p listed.now) (channels_in channels.old members.old) }
 {
-    let a = &channel_ids[..];
-    let b = &channel_kinds[..];
-    let c = &managers[..];
-    let d = &admitted[..];
-    let e = &joined[..];
-    a.len()
-}
-
-// p leaves each listed channel.
-fn leave_all(
-    channel_ids: &mut [u16; 128],
-    channel_kinds: &mut [u8; 128],
-    managers: &mut [u8; 128],
-    admitted: &mut [u64; 128],
-    joined: &mut [u16; 128],
-    p: u8,
-    listed: &[u16],
-)
-    ensures { channels_after channel_ids channel_kinds managers admitted joined
-        ≡ sweep_channels (left p listed.now) (channels_before channel_ids channel_kinds managers admitted joined) }
-{
-    let n = width(channel_ids, channel_kinds, managers, admitted, joined);
-    let mut j = cols_walk::used_from(channel_ids, 0);
+    // As many as there are places.
+    let n = members.joined[..].len();
+    let mut j = cols_walk::used_from(&channels.ids, 0);
     while j < n {
-        leave_at(
-            channel_ids,
-            channel_kinds,
-            managers,
-            admitted,
-            joined,
-            p,
-            listed,
-            j,
-        );
-        j = cols_walk::used_from(channel_ids, j + 1);
+        leave_at(channels, members, p, listed, j);
+        j = cols_walk::used_from(&channels.ids, j + 1);
     }
 }
 
-// CLrq on p: the first `count` of the ids.
-pub fn leave_channels(
-    channel_ids: &mut [u16; 128],
-    channel_kinds: &mut [u8; 128],
-    managers: &mut [u8; 128],
-    admitted: &mut [u64; 128],
-    joined: &mut [u16; 128],
-    p: u8,
-    listed: &[u16; 64],
-    count: usize,
-    out: &mut [u8],
-) -> Answer
-    ensures { let cs = channels_before channel_ids channel_kinds managers admitted joined in
-        answered result (channels_after channel_ids channel_kinds managers admitted joined) out.new
-        ≡ settle cs (leave_of cs p (take count listed.now)) out.old }
+// CLrq on p for the listed channels.
+pub fn leave_channels(d: &mut Domain, p: u8, listed: &[u16], out: &mut [u8]) -> Answer
+    ensures { let old = domain_in d.old in
+        answered result (domain_in d.new) out.new ≡ settle old (act (grant old.channels) old p (CLrq listed.now)) out.old }
 {
-    let all = &listed[..];
-    let n = usize::min(count, all.len());
-    let list = &all[..n];
-    if any_joined(
-        channel_ids,
-        channel_kinds,
-        managers,
-        admitted,
-        joined,
-        p,
-        list,
-    ) {
-        leave_all(
-            channel_ids,
-            channel_kinds,
-            managers,
-            admitted,
-            joined,
-            p,
-            list,
-        );
+    if any_joined(&d.channels, &d.members, p, listed) {
+        leave_all(&mut d.channels, &mut d.members, p, listed);
         return Answer {
             reply: Reply::Done,
             sent: 0,

@@ -1,29 +1,15 @@
-use Rattle.serve_reply.proofs.Initiators.{placed, unplaced}
-use Rattle.cols_spec.proofs.Answers.{find_at, find_nowhere}
-use Rattle.serve_channels.proofs.Entering.{join_nobody, join_found, join_unfound}
-use borrow.Author.Rules.{rules}
+use mathlib.Core.Path.{sym}
+use Rattle.domain_tables.specs.Held.{domain_in}
+use Rattle.serve_channels.proofs.Entering.{join_asked, join_nobody, join_found, join_unfound}
 use Rattle.serve_channels.proofs.join.Goals as goal
 
-pub initiator-i-requires : goal.initiator-i-requires
-initiator-i-requires c = tt
+pub returns-in_default : goal.returns-in_default
+returns-in_default c = rw c.ignored.ensures (join_asked (domain_in c.args.d.now) _ _ _ _ (join_nobody _ _ _ _ _ _ _ _ (sym c.in_default.ensures)))
 
-pub ignored-requires : goal.ignored-requires
-ignored-requires c = tt
+pub returns-in-Some-find : goal.returns-in-Some-find
+returns-in-Some-find c = let a = c.args in
+    join_asked (domain_in a.d.now) a.p a.u a.c _ (join_found _ _ _ _ a.p a.u a.c _ _ (sym c.in-Some.ensures) _ _ (sym c.in-Some-find.ensures) c.join_at.ensures)
 
-pub returns-then-i-ge64 : goal.returns-then-i-ge64
-returns-then-i-ge64 c = rw c.ignored.ensures (join_nobody _ _ _ _ _ _ _ _ (unplaced _ _ _ c.initiator-i.ensures c.if-i-ge64.true))
-
-pub find-j-requires : goal.find-j-requires
-find-j-requires c = tt
-
-pub join_at-requires : goal.join_at-requires
-join_at-requires c = tt
-
-pub returns-then-j-lt128 : goal.returns-then-j-lt128
-returns-then-j-lt128 c = join_found _ _ _ _ _ _ _ _ _ (placed _ _ _ c.initiator-i.ensures c.if-i-ge64.false) _ _ (find_at _ _ _ c.find-j.ensures (search rules)) (c.join_at.ensures c.args.channel_ids.now)
-
-pub join_new-requires : goal.join_new-requires
-join_new-requires c = tt
-
-pub returns : goal.returns
-returns c = join_unfound _ _ _ _ _ _ _ _ _ (placed _ _ _ c.initiator-i.ensures c.if-i-ge64.false) _ (find_nowhere _ _ _ c.find-j.ensures (search rules)) c.join_new.ensures
+pub returns-in-None : goal.returns-in-None
+returns-in-None c = let a = c.args in
+    join_asked (domain_in a.d.now) a.p a.u a.c _ (join_unfound _ _ _ _ a.p a.u a.c _ _ (sym c.in-Some.ensures) _ (sym c.in-None.ensures) c.join_new.ensures)

@@ -3,17 +3,16 @@ use borrow.Author.Rules.{rules}
 use Rattle.cols_spec.specs.Swept.{anywhere}
 use Rattle.cols_spec.proofs.Sweeps.{sweeps_start, sweeps_next, sweeps_step}
 use Rattle.domain.specs.Cells.{no_channel}
-use Rattle.domain.specs.Tables.{channel_cells}
 use Rattle.domain.specs.Channels.{left}
-use Rattle.domain_tables.proofs.ChannelSweeps.{channels_swept}
+use Rattle.domain_tables.specs.Held.{cells_in}
+use Rattle.domain_tables.proofs.ChannelSweeps.{channel_count, channels_swept}
 use Rattle.serve_channels.proofs.leave_all.Goals as goal
 
 pub loop-j-init : goal.loop-j-init
 loop-j-init c =
     let a = c.args in
     let f = left a.p a.listed.now in
-    let n = c.width-n.ensures in
-    (n.0, (sweeps_next no_channel (anywhere f) (sweeps_start no_channel (anywhere f) 128 a.channel_ids.now (channel_cells a.channel_kinds.now a.managers.now a.admitted.now a.joined.now) n.1 n.2) _ c.used_from-j.ensures).1)
+    (search rules, (sweeps_next no_channel (anywhere f) (sweeps_start no_channel (anywhere f) 128 a.channels.now.ids (cells_in a.channels.now a.members.now) (search rules) (channel_count 128 _ _ _ _ (search rules) (search rules) (search rules) (search rules))) _ c.used_from-j.ensures).1)
 
 pub loop-j-smaller : goal.loop-j-smaller
 loop-j-smaller c =
