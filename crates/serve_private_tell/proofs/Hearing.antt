@@ -34,7 +34,7 @@ take_within r xs n h = omega (arith, length-take r xs, min-le_left r (length xs)
 says_length : (s : Say) (ids : List ℕ) → length ids ≤ 64 → length (wire (says s ids)) ≤ 134
 unfolding says
 says_length (Admits u c) ids h = omega (arith, ap length (wire_CAin ids (omega arith) u c), ids_length 1001 ids)
-says_length (Expels c) ids h = omega (arith, ap length (wire_CEin ids (omega arith) c), ids_length 1001 ids)
+says_length (Expels u c) ids h = omega (arith, ap length (wire_CEin ids (omega arith) c), ids_length 1001 ids)
 
 -- its record: what stands before the users, and they
 module _ {s : List ℕ} {at : ℕ} (os : List ℕ) {t : List ℕ} {n : ℕ} (few : length os ≤ 10) (room : at ≤ 65535) (p : Puts s at (guarded at os os) t n) where

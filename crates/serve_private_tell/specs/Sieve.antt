@@ -57,7 +57,7 @@ pub record Takes (us : Users) (k : Pick) (ids taken spots shares firsts : List �
 -- CAin or CEin
 unfoldable pub says : Say → List ℕ → Message
 says (Admits u c) ids = CAin u c ids
-says (Expels c) ids = CEin c ids
+says (Expels u c) ids = CEin c ids
 
 -- a record is begun: who lays its n users behind it makes it whole
 abbrev pub Begins : (s : List ℕ) (at : ℕ) (say : Say) (q n : ℕ) (t : List ℕ) (next : ℕ) → Type 0
