@@ -1,38 +1,52 @@
 -- CArq and CErq by cases. Assumes nothing.
-use Rattle.std.specs.Prelude.{if◌then◌else◌}
+use Rattle.std.specs.Prelude.{Option, Some, None}
+use Rattle.codec_table.specs.Named.{CArq, CErq}
 use mathlib.Core.Path.{◌≡◌, refl, sym, ap, ◌∙◌}
-use mathlib.Core.Bool.{Bool, true, false}
+use mathlib.Core.Bool.{true, false}
 use mathlib.Core.List.{List}
 use Prim.Native.Nat.{ℕ}
 use lib.Dec.{eqb}
 use lib.ListN.{get_or}
 use Rattle.domain.specs.declared.channel.Channel.{Channel}
 use Rattle.domain.specs.Cells.{no_channel}
-use Rattle.domain.specs.Tables.{Users, Channels, channel, set_channel}
-use Rattle.domain.specs.Effects.{Effect, ignored, settled, settle}
+use Rattle.domain.specs.Tables.{Users, Channels, Domain, channel, set_channel, put_channels, grant}
+use Rattle.domain.specs.Effects.{Effect, settled, settle}
+use Rattle.domain.specs.Events.{act}
+use Rattle.domain.proofs.Requesting.{on_channels}
 use Rattle.domain.specs.Channels.{manages, places, attached_of, admitted_of, admit, expel}
 use Rattle.serve_private_tell.specs.declared.Pick.{Pick}
 use Rattle.serve_private_tell.specs.declared.Say.{Say}
 use Rattle.serve_private_tell.specs.declared.Say.TheVariants.{Admits, Expels}
 use Rattle.serve_private_tell.specs.Sieve.{picked, sieved, says, tells}
 use Rattle.serve_private_tell.proofs.Telling.{told_else, told_done}
-use Rattle.serve_private.specs.Changes.{picks, changed, changes}
+use Rattle.serve_private.specs.Changes.{picks, changed, changes, asker, asked_of, asks, at_managed}
 
--- ---- a channel that u on p manages, or nobody does
-module _ (us : Users) (cs : Channels) (p u c : ℕ) (ids out : List ℕ) where
-  abbrev Unmanaged : Type 0
-  Unmanaged = (act : ℕ → ℕ → ℕ → Effect Channels) → manages us cs p u c act ≡ ignored
+-- ---- CArq or CErq
+abbrev pub revised : (us : Users) (cs : Channels) (p : ℕ) (say : Say) (ids : List ℕ) → Effect Channels
+revised us cs p (Admits u c) ids = admit us cs p u c ids
+revised us cs p (Expels u c) ids = expel us cs p u c ids
 
-  pub unmanaged : Unmanaged → (admits : Bool) → settled 1 0 cs out ≡ settle cs ((if admits then admit else expel) us cs p u c ids) out
+pub revise_asked : (d : Domain) (p : ℕ) (say : Say) (ids out : List ℕ) {n l : ℕ} {o : List ℕ} {cs : Channels}
+    → settled n l cs o ≡ settle d.channels (revised d.users d.channels p say ids) out
+    → settled n l (put_channels d cs) o ≡ settle d (act (grant d.channels) d p (asks say ids)) out
+unfolding act
+revise_asked d p (Admits u c) ids out e = on_channels d.limits d.links d.users d.channels d.tokens (grant d.channels) p (CArq u c ids) out _ e refl
+revise_asked d p (Expels u c) ids out e = on_channels d.limits d.links d.users d.channels d.tokens (grant d.channels) p (CErq u c ids) out _ e refl
+
+-- a channel that u on p manages, or nobody does
+module _ (us : Users) (cs : Channels) (p : ℕ) (ids : List ℕ) where
+  abbrev Managed : Say → Option ℕ → Type 0
+  Managed say place = (go : ℕ → ℕ → ℕ → Effect Channels) → manages us cs p (asker say) (asked_of say) go ≡ at_managed cs place go
+
+  pub revise_ignored : (out : List ℕ) (say : Say) → Managed say None → settled 1 0 cs out ≡ settle cs (revised us cs p say ids) out
   unfolding admit expel settle
-  unmanaged h true = rw (h _) refl
-  unmanaged h false = rw (h _) refl
+  revise_ignored out (Admits u c) h = rw (h _) refl
+  revise_ignored out (Expels u c) h = rw (h _) refl
 
-  pub revises : (j : ℕ) → ((act : ℕ → ℕ → ℕ → Effect Channels) → manages us cs p u c act ≡ act j (channel cs j).chair (channel cs j).guests)
-      → (admits : Bool) → changes us cs j (if admits then Admits u c else Expels c) ids ≡ (if admits then admit else expel) us cs p u c ids
+  pub revises : (say : Say) (j : ℕ) → Managed say (Some j) → changes us cs j say ids ≡ revised us cs p say ids
   unfolding changes picks changed says sieved picked admit attached_of expel admitted_of
-  revises j h true = sym (h _)
-  revises j h false = sym (h _)
+  revises (Admits u c) j h = sym (h _)
+  revises (Expels u c) j h = sym (h _)
 
 -- ---- the channel at place j changes, or nothing does
 module _ (us : Users) (cs : Channels) (j : ℕ) (say : Say) (ids out : List ℕ) (ch : Channel) (x : ch ≡ get_or cs.cells j no_channel) (k : Pick) (y : k ≡ picks say ch.guests)

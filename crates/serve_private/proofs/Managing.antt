@@ -1,5 +1,6 @@
 -- Who manages a private channel, and CCrq and CDrq by cases. Assumes nothing.
 use Rattle.std.specs.Prelude.{if◌then◌else◌}
+use mathlib.Core.Logic.{◌⊎◌, inl, inr}
 use mathlib.Core.Path.{◌≡◌, refl, sym, ap, ◌∙◌}
 use mathlib.Core.Bool.{Bool, true, false}
 use mathlib.Core.List.{List, [], ◌∷◌}
@@ -10,19 +11,28 @@ use lib.Dec.{eqb}
 use lib.ListN.{get_or}
 use Rattle.cols_spec.specs.Sets.{with, seats}
 use Rattle.cols_spec.specs.Places.{Place, At, Nowhere, find}
-use Rattle.codec_table.specs.Named.{CCcf, CDin, successful, too_many_channels}
+use Rattle.codec_table.specs.Named.{CCrq, CCcf, CDrq, CDin, successful, too_many_channels}
 use Rattle.out_records.specs.Records.{to, tell}
 use Rattle.domain.specs.declared.channel.Kind.{Kind}
 use Rattle.domain.specs.declared.channel.Kind.TheVariants.{Static, User, Private, Assigned}
 use Rattle.domain.specs.declared.channel.Channel.{Channel}
 use Rattle.domain.specs.Cells.{no_channel, kind, channel_of}
-use Rattle.domain.specs.Tables.{Users, Channels, attached, hosts, channel, add_channel, end_channel}
+use Rattle.domain.specs.Tables.{Users, Channels, Domain, attached, hosts, channel, add_channel, end_channel, put_channels, at_limit, grant}
 use Rattle.domain.specs.Effects.{Effect, ignored, done, settled, delivers, settle}
 use Rattle.domain.specs.Channels.{convene, owned, manages, disband}
+use Rattle.domain.specs.Events.{act, channels_full}
+use Rattle.domain.proofs.Requesting.{on_channels}
 use Rattle.serve_reply.proofs.Sending.{Told, did_nothing, did_refuse, did}
 use Rattle.serve_reply.proofs.Initiators.{from_at, from_nobody}
 
 -- ---- CCrq
+module _ (d : Domain) (p u : ℕ) (out : List ℕ) where
+  pub convene_asked : {n l : ℕ} {o : List ℕ} {cs : Channels}
+      → settled n l cs o ≡ settle d.channels (convene (grant d.channels) (at_limit d.limits.channels d.channels.ids) d.users d.channels p u) out
+      → settled n l (put_channels d cs) o ≡ settle d (act (grant d.channels) d p (CCrq u)) out
+  unfolding act channels_full
+  convene_asked e = on_channels d.limits d.links d.users d.channels d.tokens _ p (CCrq u) out _ e refl
+
 module _ (new : ℕ) (us : Users) (cs : Channels) (p u : ℕ) (out : List ℕ) where
   pub convene_nobody : (full : Bool) → attached us p u ≡ Nowhere → settled 1 0 cs out ≡ settle cs (convene new full us cs p u) out
   unfolding convene settle
@@ -71,6 +81,12 @@ module _ (ch : Channel) (i : ℕ) (e : kind ch ≡ Private ch.chair ch.guests) (
   unfolding owned
   owned_no h = rw e (rw h refl)
 
+pub owned_other : (ch : Channel) (k : Kind) → k ≡ kind ch → (k ≡ Static) ⊎ ((k ≡ User) ⊎ (k ≡ Assigned)) → (i : ℕ) (act : ℕ → ℕ → Effect Channels) → owned (kind ch) i act ≡ ignored
+unfolding owned
+owned_other ch k x (inl e) i act = rw (sym x ∙ e) refl
+owned_other ch k x (inr (inl e)) i act = rw (sym x ∙ e) refl
+owned_other ch k x (inr (inr e)) i act = rw (sym x ∙ e) refl
+
 module _ (us : Users) (cs : Channels) (p u c : ℕ) where
   pub manages_nobody : attached us p u ≡ Nowhere → (act : ℕ → ℕ → ℕ → Effect Channels) → manages us cs p u c act ≡ ignored
   unfolding manages
@@ -98,6 +114,13 @@ module _ (us : Users) (cs : Channels) (p u c : ℕ) where
       manages_no h = goes (At j) q ∙ rw x at (h (act j))
 
 -- ---- CDrq
+module _ (d : Domain) (p u c : ℕ) (out : List ℕ) where
+  pub disband_asked : {n l : ℕ} {o : List ℕ} {cs : Channels}
+      → settled n l cs o ≡ settle d.channels (disband d.users d.channels p u c) out
+      → settled n l (put_channels d cs) o ≡ settle d (act (grant d.channels) d p (CDrq u c)) out
+  unfolding act
+  disband_asked e = on_channels d.limits d.links d.users d.channels d.tokens (grant d.channels) p (CDrq u c) out _ e refl
+
 module _ (us : Users) (cs : Channels) (p u c : ℕ) (out : List ℕ) where
   pub disband_ignored : ((act : ℕ → ℕ → ℕ → Effect Channels) → manages us cs p u c act ≡ ignored) → settled 1 0 cs out ≡ settle cs (disband us cs p u c) out
   unfolding disband settle

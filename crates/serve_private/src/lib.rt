@@ -1,161 +1,94 @@
-// Requests about private channels, on lent columns: CCrq, CDrq, CArq, CErq. Each decides, sends where there is room, then stores.
+// Requests about private channels: CCrq, CDrq, CArq, CErq. Each decides, sends where there is room, then stores.
 #![tactic(auto)]
 
-ghost use Rattle.std.specs.Prelude.{◌≡◌, true, false, List, ℕ, ◌≤◌, ◌<◌, eqb, take, if◌then◌else◌};
+ghost use Rattle.std.specs.Prelude.{◌≡◌, true, false, ℕ, take};
+ghost use Rattle.codec_table.specs.Named.{CCrq, CDrq};
 ghost use Rattle.cols_spec.specs.Sets.{with, seats};
 ghost use Rattle.domain.specs.Cells.{kind};
-ghost use Rattle.domain.specs.Tables.{Channels, channel, hosts as hosts_of, at_limit, grant};
-ghost use Rattle.domain.specs.Lent.{channels_after, channels_after_with, channels_before, channels_before_with, channels_now, users_now};
-ghost use Rattle.domain.specs.Numbers.{reply_number};
+ghost use Rattle.domain.specs.Tables.{Channels as ChannelsOf, hosts as hosts_of, grant};
 ghost use Rattle.domain.specs.Effects.{Effect, ignored as ignored_by, settle, answered};
-ghost use Rattle.domain.specs.Channels.{convene as convene_of, owned, manages, disband as disband_of, admit as admit_of, expel as expel_of};
-ghost use Rattle.serve_private_tell.specs.declared.Say.TheVariants.{Admits, Expels};
-ghost use Rattle.serve_private.specs.Changes.{picks, changed, changes};
+ghost use Rattle.domain.specs.Channels.{owned, manages};
+ghost use Rattle.domain.specs.Events.{act};
+ghost use Rattle.domain_tables.specs.Held.{domain_in, users_in, channels_in};
+ghost use Rattle.serve_private.specs.Changes.{picks, changed, changes, asker, asked_of, asks, at_managed};
 
 use cols_masks::Mask;
 use domain::answer::Answer;
 use domain::channel::{Channel, Kind};
-use domain::numbers::Result;
+use domain::numbers;
+use domain::numbers::Reply;
+use domain_tables::{Channels, Domain, Members, Users};
 use serve_private_tell::{Pick, Say};
 use serve_reply::confirms;
 
 // CCrq by u on p.
-pub fn convene(
-    user_ids: &[u16; 64],
-    user_links: &[u8; 64],
-    channel_ids: &mut [u16; 128],
-    channel_kinds: &mut [u8; 128],
-    managers: &mut [u8; 128],
-    admitted: &mut [u64; 128],
-    joined: &mut [u16; 128],
-    limit: u8,
-    p: u8,
-    u: u16,
-    out: &mut [u8],
-) -> Answer
-    ensures { let cs = channels_before channel_ids channel_kinds managers admitted joined in
-        answered result (channels_after channel_ids channel_kinds managers admitted joined) out.new
-        ≡ settle cs (convene_of (grant cs) (at_limit limit cs.ids) (users_now user_ids user_links) cs p u) out.old }
+pub fn convene(d: &mut Domain, p: u8, u: u16, out: &mut [u8]) -> Answer
+    ensures { let old = domain_in d.old in
+        answered result (domain_in d.new) out.new ≡ settle old (act (grant old.channels) old p (CCrq u)) out.old }
 {
-    let i = serve_reply::initiator(user_ids, user_links, p, u);
-    if 64 <= i {
+    let Some(i) = d.users.attached(p, u) else {
         return serve_reply::ignored();
+    };
+    if domain_tables::at_limit(d.limits.channels, &d.channels.ids) {
+        return confirms::convene(out, p, u, Err(numbers::Result::TooManyChannels));
     }
-    if domain_tables::at_limit(limit, channel_ids) {
-        return confirms::deny_convene(out, p, Result::TooManyChannels, u);
-    }
-    let new = cols_walk::unused(channel_ids);
-    let a = confirms::take_convene(out, p, u, new);
+    let new = cols_walk::unused(&d.channels.ids);
+    let a = confirms::convene(out, p, u, Ok(new));
     if serve_reply::refused(a) {
         return a;
     }
-    let ch = domain_state::channel::new_channel(Kind::Private(i as u8, 0), 0);
-    domain_tables::channels::add_channel(
-        channel_ids,
-        channel_kinds,
-        managers,
-        admitted,
-        joined,
-        new,
-        ch,
-    );
+    let ch = domain_state::channel::new_channel(Kind::Private(i, 0), 0);
+    d.channels.add(&mut d.members, new, ch);
     a
 }
 
 // The user at place i manages this channel.
 fn presides(ch: Channel, i: u8) -> bool
-    ensures { (result ≡ true → (act : (ℕ → ℕ → Effect Channels)) → owned (kind ch) i act ≡ act ch.chair ch.guests)
-        × (result ≡ false → (act : (ℕ → ℕ → Effect Channels)) → owned (kind ch) i act ≡ ignored_by) }
+    ensures yes { result ≡ true → (go : (ℕ → ℕ → Effect ChannelsOf)) → owned (kind ch) i go ≡ go ch.chair ch.guests }
+    ensures no { result ≡ false → (go : (ℕ → ℕ → Effect ChannelsOf)) → owned (kind ch) i go ≡ ignored_by }
 {
-    let k = domain_state::channel::kind_of(ch);
-    match k {
+    match domain_state::channel::kind_of(ch) {
         Kind::Private(_, _) => ch.chair == i,
-        Kind::Static => false,
-        Kind::User => false,
-        Kind::Assigned => false,
+        Kind::Static | Kind::User | Kind::Assigned => false,
     }
 }
 
-// The place of private channel c, where u on p manages it; 128 is nowhere.
-fn managed(
-    user_ids: &[u16; 64],
-    user_links: &[u8; 64],
-    channel_ids: &[u16; 128],
-    channel_kinds: &[u8; 128],
-    managers: &[u8; 128],
-    admitted: &[u64; 128],
-    joined: &[u16; 128],
-    p: u8,
-    u: u16,
-    c: u16,
-) -> usize
-    ensures { let us = users_now user_ids user_links in
-        let cs = channels_now channel_ids channel_kinds managers admitted joined in
-        (result < 128 → (act : (ℕ → ℕ → ℕ → Effect Channels)) → manages us cs p u c act ≡ act result (channel cs result).chair (channel cs result).guests)
-        × (128 ≤ result → (act : (ℕ → ℕ → ℕ → Effect Channels)) → manages us cs p u c act ≡ ignored_by) }
+// The place of private channel c, where u on p manages it.
+fn managed(d: &Domain, p: u8, u: u16, c: u16) -> Option<usize>
+    ensures { let cs = channels_in d.now.channels d.now.members in
+        (go : (ℕ → ℕ → ℕ → Effect ChannelsOf)) → manages (users_in d.now.users) cs p u c go ≡ at_managed cs result go }
 {
-    let i = serve_reply::initiator(user_ids, user_links, p, u);
-    if 64 <= i {
-        return 128;
+    let i = d.users.attached(p, u)?;
+    let j = d.channels.find(c)?;
+    if presides(d.channels.at(&d.members, j), i) {
+        return Some(j);
     }
-    let j = cols_find::find(channel_ids, c);
-    if j < 128 {
-        let ch = domain_tables::channels::channel_at(channel_kinds, managers, admitted, joined, j);
-        if presides(ch, i as u8) {
-            return j;
-        }
-    }
-    128
+    None
 }
 
 // The connections with the manager or an admitted user.
-fn homes_of(user_ids: &[u16; 64], user_links: &[u8; 64], chair: u8, guests: u64) -> u16
-    ensures { result ≡ hosts_of (users_now user_ids user_links) (with seats guests chair) }
+fn homes_of(users: &Users, chair: u8, guests: u64) -> u16
+    ensures { result ≡ hosts_of (users_in users.now) (with seats guests chair) }
 {
-    domain_tables::users::hosts(user_ids, user_links, guests.with(chair))
+    users.hosts(guests.with(chair))
 }
 
 // CDrq by u on p for channel c.
-pub fn disband(
-    user_ids: &[u16; 64],
-    user_links: &[u8; 64],
-    channel_ids: &mut [u16; 128],
-    channel_kinds: &mut [u8; 128],
-    managers: &mut [u8; 128],
-    admitted: &mut [u64; 128],
-    joined: &mut [u16; 128],
-    p: u8,
-    u: u16,
-    c: u16,
-    out: &mut [u8],
-) -> Answer
-    ensures { let cs = channels_before channel_ids channel_kinds managers admitted joined in
-        answered result (channels_after channel_ids channel_kinds managers admitted joined) out.new
-        ≡ settle cs (disband_of (users_now user_ids user_links) cs p u c) out.old }
+pub fn disband(d: &mut Domain, p: u8, u: u16, c: u16, out: &mut [u8]) -> Answer
+    ensures { let old = domain_in d.old in
+        answered result (domain_in d.new) out.new ≡ settle old (act (grant old.channels) old p (CDrq u c)) out.old }
 {
-    let j = managed(
-        user_ids,
-        user_links,
-        channel_ids,
-        channel_kinds,
-        managers,
-        admitted,
-        joined,
-        p,
-        u,
-        c,
-    );
-    if 128 <= j {
+    let Some(j) = managed(d, p, u, c) else {
         return serve_reply::ignored();
-    }
-    let ch = domain_tables::channels::channel_at(channel_kinds, managers, admitted, joined, j);
-    let mask = homes_of(user_ids, user_links, ch.chair, ch.guests);
+    };
+    let ch = d.channels.at(&d.members, j);
+    let mask = homes_of(&d.users, ch.chair, ch.guests);
     let m = out_messages::disband_indication(c);
     let a = serve_reply::tell(out, mask, &m);
     if serve_reply::refused(a) {
         return a;
     }
-    domain_tables::channels::end_channel(channel_ids, channel_kinds, managers, admitted, joined, j);
+    d.channels.end(&mut d.members, j);
     a
 }
 
@@ -165,136 +98,70 @@ fn pick_for(s: Say, guests: u64) -> Pick
 {
     match s {
         Say::Admits(_, _) => Pick::Attached,
-        Say::Expels(_) => Pick::Admitted(guests),
+        Say::Expels(_, _) => Pick::Admitted(guests),
     }
 }
 
 // The channel once the users at these places are admitted or expelled.
-fn with_change(
-    user_ids: &[u16; 64],
-    user_links: &[u8; 64],
-    s: Say,
-    ch: Channel,
-    seats: u64,
-) -> Channel
-    ensures { result ≡ changed (users_now user_ids user_links) s ch seats }
+fn with_change(users: &Users, s: Say, ch: Channel, seats: u64) -> Channel
+    ensures { result ≡ changed (users_in users.now) s ch seats }
 {
     match s {
         Say::Admits(_, _) => Channel {
-            role: ch.role,
-            chair: ch.chair,
             guests: ch.guests.union(seats),
-            marks: ch.marks,
+            ..ch
         },
-        Say::Expels(_) => {
+        Say::Expels(_, _) => {
             let stay = ch.guests.minus(seats);
-            let mask = homes_of(user_ids, user_links, ch.chair, stay);
+            let mask = homes_of(users, ch.chair, stay);
             Channel {
-                role: ch.role,
-                chair: ch.chair,
                 guests: stay,
                 marks: ch.marks.meet(mask),
+                ..ch
             }
         }
     }
 }
 
-// A request was done.
-fn done(a: Answer) -> bool
-    ensures { result ≡ eqb (reply_number a.reply) 0 }
-{
-    let reply = a.reply;
-    domain_state::numbers::reply_number(reply) == 0
-}
-
-// The first `count` ids are admitted to the private channel at place j, or expelled.
+// The first 64 ids of a list are admitted to the private channel at place j, or expelled.
 fn change(
-    user_ids: &[u16; 64],
-    user_links: &[u8; 64],
-    channel_kinds: &mut [u8; 128],
-    managers: &mut [u8; 128],
-    admitted: &mut [u64; 128],
-    joined: &mut [u16; 128],
+    users: &Users,
+    channels: &mut Channels,
+    members: &mut Members,
     j: usize,
     s: Say,
-    listed: &mut [u16; 64],
-    count: usize,
+    listed: &mut [u16],
     out: &mut [u8],
 ) -> Answer
-    ensures { (ids : List ℕ) → answered result (channels_after_with ids channel_kinds managers admitted joined) out.new
-        ≡ settle (channels_before_with ids channel_kinds managers admitted joined)
-        (changes (users_now user_ids user_links) (channels_before_with ids channel_kinds managers admitted joined) j s (take count listed.old))
-        out.old }
+    ensures { let cs = channels_in channels.old members.old in
+        answered result (channels_in channels.new members.new) out.new ≡ settle cs (changes (users_in users.now) cs j s (take 64 listed.old)) out.old }
 {
-    let ch = domain_tables::channels::channel_at(channel_kinds, managers, admitted, joined, j);
-    let k = pick_for(s, ch.guests);
-    let told = serve_private_tell::tell_chosen(out, user_ids, user_links, k, s, listed, count);
+    let ch = channels.at(members, j);
+    let told = serve_private_tell::tell_chosen(users, pick_for(s, ch.guests), s, listed, out);
     let a = told.answer;
-    if done(a) {
-        let now = with_change(user_ids, user_links, s, ch, told.seats);
-        domain_tables::channels::set_channel(channel_kinds, managers, admitted, joined, j, now);
+    if a.reply == Reply::Done {
+        channels.put(members, j, with_change(users, s, ch, told.seats));
     }
     a
 }
 
-// What is said where users are admitted, and where they are expelled.
-fn said(admits: bool, u: u16, c: u16) -> Say
-    ensures { result ≡ (if admits then Admits u c else Expels c) }
+// Who asks, and of which channel.
+fn asked(s: Say) -> (u16, u16)
+    ensures { result ≡ (asker s, asked_of s) }
 {
-    if admits {
-        return Say::Admits(u, c);
+    match s {
+        Say::Admits(u, c) | Say::Expels(u, c) => (u, c),
     }
-    Say::Expels(c)
 }
 
-// CArq or CErq by u on p for channel c: the first `count` of the ids are admitted, or expelled. One way for both, so that little stands on the stack.
-pub fn revise(
-    user_ids: &[u16; 64],
-    user_links: &[u8; 64],
-    channel_ids: &[u16; 128],
-    channel_kinds: &mut [u8; 128],
-    managers: &mut [u8; 128],
-    admitted: &mut [u64; 128],
-    joined: &mut [u16; 128],
-    p: u8,
-    admits: bool,
-    u: u16,
-    c: u16,
-    listed: &mut [u16; 64],
-    count: usize,
-    out: &mut [u8],
-) -> Answer
-    ensures { let cs = channels_before_with channel_ids.now channel_kinds managers admitted joined in
-        answered result (channels_after_with cs.ids channel_kinds managers admitted joined) out.new
-        ≡ settle cs ((if admits then admit_of else expel_of) (users_now user_ids user_links) cs p u c (take count listed.old)) out.old }
+// CArq or CErq on p: the first 64 of the ids are admitted, or expelled. One way for both, so that little stands on the stack.
+pub fn revise(d: &mut Domain, p: u8, s: Say, listed: &mut [u16], out: &mut [u8]) -> Answer
+    ensures { let old = domain_in d.old in
+        answered result (domain_in d.new) out.new ≡ settle old (act (grant old.channels) old p (asks s (take 64 listed.old))) out.old }
 {
-    let j = managed(
-        user_ids,
-        user_links,
-        channel_ids,
-        channel_kinds,
-        managers,
-        admitted,
-        joined,
-        p,
-        u,
-        c,
-    );
-    if 128 <= j {
+    let (u, c) = asked(s);
+    let Some(j) = managed(d, p, u, c) else {
         return serve_reply::ignored();
-    }
-    let s = said(admits, u, c);
-    change(
-        user_ids,
-        user_links,
-        channel_kinds,
-        managers,
-        admitted,
-        joined,
-        j,
-        s,
-        listed,
-        count,
-        out,
-    )
+    };
+    change(&d.users, &mut d.channels, &mut d.members, j, s, listed, out)
 }
