@@ -11,8 +11,10 @@ ghost use Rattle.serve_read.specs.Requests.{brief_request, listed_request};
 use domain::answer::Answer;
 use domain::numbers::Reply;
 use domain_tables::Domain;
+use serve_private::Say;
 
 // The requests of a few ids that are not about tokens: AUrq, CJrq, CCrq, CDrq.
+#[tactic(auto, unfolding(serve_read::specs::Requests::brief_request))]
 pub fn brief_request(
     d: &mut Domain,
     p: u8,
@@ -24,71 +26,11 @@ pub fn brief_request(
     ensures { answered result (domain_in d.new) out.new
         ≡ settle (domain_in d.old) (act (grant (domain_in d.old).channels) (domain_in d.old) p (brief_request number first second)) out.old }
 {
-    let limits = d.limits;
     match number {
-        10 => {
-            let users = limits.users;
-            let most = limits.channels;
-            serve_channels::attach(
-                &mut d.users.ids,
-                &mut d.users.links,
-                &mut d.channels.ids,
-                &mut d.channels.kinds,
-                &mut d.channels.managers,
-                &mut d.members.admitted,
-                &mut d.members.joined,
-                users,
-                most,
-                p,
-                out,
-            )
-        }
-        14 => {
-            let most = limits.channels;
-            serve_channels::join(
-                &mut d.users.ids,
-                &mut d.users.links,
-                &mut d.channels.ids,
-                &mut d.channels.kinds,
-                &mut d.channels.managers,
-                &mut d.members.admitted,
-                &mut d.members.joined,
-                most,
-                p,
-                first,
-                second,
-                out,
-            )
-        }
-        17 => {
-            let most = limits.channels;
-            serve_private::convene(
-                &mut d.users.ids,
-                &mut d.users.links,
-                &mut d.channels.ids,
-                &mut d.channels.kinds,
-                &mut d.channels.managers,
-                &mut d.members.admitted,
-                &mut d.members.joined,
-                most,
-                p,
-                first,
-                out,
-            )
-        }
-        _ => serve_private::disband(
-            &mut d.users.ids,
-            &mut d.users.links,
-            &mut d.channels.ids,
-            &mut d.channels.kinds,
-            &mut d.channels.managers,
-            &mut d.members.admitted,
-            &mut d.members.joined,
-            p,
-            first,
-            second,
-            out,
-        ),
+        10 => serve_channels::attach(d, p, out),
+        14 => serve_channels::join(d, p, first, second, out),
+        17 => serve_private::convene(d, p, first, out),
+        _ => serve_private::disband(d, p, first, second, out),
     }
 }
 
@@ -106,40 +48,20 @@ pub fn listed_request(
     ensures { answered result (domain_in d.new) out.new
         ≡ settle (domain_in d.old) (act (grant (domain_in d.old).channels) (domain_in d.old) p (listed_request number first second (take count listed.old))) out.old }
 {
+    let n = usize::min(count, 64);
     match number {
         1 => Answer {
             reply: Reply::Done,
             sent: 0,
         },
-        16 => serve_channels::leave_channels(
-            &mut d.channels.ids,
-            &mut d.channels.kinds,
-            &mut d.channels.managers,
-            &mut d.members.admitted,
-            &mut d.members.joined,
-            p,
-            listed,
-            count,
-            out,
-        ),
+        16 => serve_channels::leave_channels(d, p, &listed[..n], out),
         21 | 23 => {
-            let admits = number == 21;
-            serve_private::revise(
-                &mut d.users.ids,
-                &mut d.users.links,
-                &mut d.channels.ids,
-                &mut d.channels.kinds,
-                &mut d.channels.managers,
-                &mut d.members.admitted,
-                &mut d.members.joined,
-                p,
-                admits,
-                first,
-                second,
-                listed,
-                count,
-                out,
-            )
+            let s = if number == 21 {
+                Say::Admits(first, second)
+            } else {
+                Say::Expels(first, second)
+            };
+            serve_private::revise(d, p, s, &mut listed[..n], out)
         }
         _ => {
             let closes = number != 12;

@@ -18,7 +18,8 @@ use domain::channel::{Channel, Kind};
 use domain::numbers;
 use domain::numbers::Reply;
 use domain_tables::{Channels, Domain, Members, Users};
-use serve_private_tell::{Pick, Say};
+use serve_private_tell::Pick;
+pub use serve_private_tell::Say;
 use serve_reply::confirms;
 
 // CCrq by u on p.
