@@ -1,3 +1,3 @@
--- records sent whole or not at all; the initiator's place
+-- records sent whole or not at all; requests that go on with an initiator
 pub mod Sending
 pub mod Initiators

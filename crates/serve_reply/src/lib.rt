@@ -1,4 +1,4 @@
-// What every request does: it looks for its initiator, and sends its records whole or not at all.
+// What every request does: it sends its records whole or not at all.
 #![tactic(auto)]
 
 pub mod confirms;
@@ -6,24 +6,12 @@ pub mod confirms;
 ghost use Rattle.std.specs.Prelude.{◌≡◌, eqb};
 ghost use Rattle.out_records.specs.Records.{record_of};
 ghost use Rattle.out_records.specs.Out.{guarded, told};
-ghost use Rattle.domain.specs.Tables.{attached};
-ghost use Rattle.domain.specs.Lent.{users_now};
 ghost use Rattle.domain.specs.Numbers.{reply_number};
 ghost use Rattle.domain.specs.Effects.{answered};
-ghost use Rattle.domain_tables.specs.Numbered.{place};
 ghost use Rattle.serve_reply.specs.Whole.{unanswered, whole};
 
 use domain::answer::Answer;
 use domain::numbers::Reply;
-
-// The place of an initiator, which must be attached on p; 64 is nowhere.
-pub fn initiator(user_ids: &[u16; 64], user_links: &[u8; 64], p: u8, u: u16) -> usize
-    ensures { place 64 result ≡ attached (users_now user_ids user_links) p u }
-{
-    let all = &user_ids[..];
-    let i = domain_tables::users::attached(user_ids, user_links, p, u);
-    if i < all.len() { i } else { 64 }
-}
 
 // A request is ignored.
 pub fn ignored() -> Answer
