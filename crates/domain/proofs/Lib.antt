@@ -9,3 +9,4 @@ pub mod holders
 pub mod hearers
 pub mod Requesting
 pub mod Turning
+pub mod OneNumber

@@ -10,11 +10,12 @@ use Rattle.domain.specs.Tables.{Channels, Domain as Tables, fresh, put_links}
 use Rattle.domain.specs.Effects.{Settled, settled, answered}
 use Rattle.domain.specs.Events.{opens, loses, hears}
 use Rattle.domain.specs.Outcomes.{after, limited, begun, audience}
+use Rattle.domain.proofs.OneNumber.{same_reply}
 use Rattle.domain_tables.specs.Held.{domain_in}
 use Rattle.domain_tables.specs.declared.Domain.{Domain}
 use Rattle.domain_tables.proofs.OneStruct.{Whole, one_struct}
 use Rattle.serve_read.specs.Understood.{understood}
-use Rattle.provider.proofs.Replies.{same_reply, one_outcome}
+use Rattle.provider.proofs.Replies.{one_outcome}
 
 -- ---- the public functions
 module _ (s t : Domain) (x : Whole s) (y : Whole t) where

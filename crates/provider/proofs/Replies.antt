@@ -17,13 +17,12 @@ use Rattle.codec_table.specs.Named.{Message, named, called, heard_as, heard}
 use Rattle.codec_table.proofs.Refusals.{refusal, refusals}
 use Rattle.out_records.specs.Records.{Sent, records}
 use Rattle.domain.specs.declared.answer.Answer.{Answer}
-use Rattle.domain.specs.declared.numbers.Reply.{Reply}
-use Rattle.domain.specs.declared.numbers.Reply.TheVariants.{Done, Ignored, NotOpen, OpenAlready, WrongLength, BadEncoding, MayNotGoUp, NotServed, TooLong, NoRoom, BadLimit, BadFrame}
 use Rattle.domain.specs.Numbers.{reply_number}
 use Rattle.domain.specs.Tables.{Domain, put_links, grant}
 use Rattle.domain.specs.Leaving.{close}
 use Rattle.domain.specs.Effects.{Effect, ignored, done, Settled, answered}
 use Rattle.domain.specs.Events.{Reading, reads, refuses, Event, opens, loses, hears, Outcome, stays, sends, ends, complaint, act, answers, step_with, step}
+use Rattle.domain.proofs.OneNumber.{same_reply}
 use Rattle.serve_read.specs.Understood.{number_in, read_as, understood}
 use Rattle.serve_read.specs.Readings.{reply_for}
 use Rattle.serve_read.proofs.Understanding.{reply_for_is}
@@ -204,30 +203,6 @@ module _ (d : Domain) (e : Event) (a : Answering d e) (room : ℕ) where
   complaint_sent = by_room (λ (o : Outcome). (o.reply ≡ 0 → ⊥) → o.sent ≡ complained e o.reply) (λ z. nothing_at_9 e) a.told
 
 -- ---- one outcome: what a promise allows is one answer, one set of tables and one room
-reply_of : ℕ → Reply
-reply_of n =
-    if eqb n 0 then Done else if eqb n 1 then Ignored else if eqb n 2 then NotOpen else if eqb n 3 then OpenAlready
-    else if eqb n 4 then WrongLength else if eqb n 5 then BadEncoding else if eqb n 6 then MayNotGoUp else if eqb n 7 then NotServed
-    else if eqb n 8 then TooLong else if eqb n 9 then NoRoom else if eqb n 10 then BadLimit else BadFrame
-
-reply_back : (r : Reply) → reply_of (reply_number r) ≡ r
-unfolding reply_of
-reply_back Done = refl
-reply_back Ignored = refl
-reply_back NotOpen = refl
-reply_back OpenAlready = refl
-reply_back WrongLength = refl
-reply_back BadEncoding = refl
-reply_back MayNotGoUp = refl
-reply_back NotServed = refl
-reply_back TooLong = refl
-reply_back NoRoom = refl
-reply_back BadLimit = refl
-reply_back BadFrame = refl
-
-pub same_reply : (r q : Reply) → reply_number r ≡ reply_number q → r ≡ q
-same_reply r q e = sym (reply_back r) ∙ ap reply_of e ∙ reply_back q
-
 pub one_outcome : {A : Type 0} (r q : Answer) {a b : A} {o t : List ℕ} (s : Settled A) → answered r a o ≡ s → answered q b t ≡ s → (r ≡ q) × (a ≡ b) × (o ≡ t)
 one_outcome {A} r q s e f =
     let z = e ∙ sym f in

@@ -1,11 +1,11 @@
 use mathlib.Core.Path.{refl, ap, ◌∙◌}
 use Rattle.domain.specs.Numbers.{reply_number}
 use Rattle.domain.specs.declared.numbers.Reply.TheVariants.{Done}
+use Rattle.domain.proofs.OneNumber.{same_reply}
 use Rattle.domain.proofs.Turning.{open_served, open_refused}
 use Rattle.serve_read.specs.Understood.{understood}
 use Rattle.serve_read.proofs.Understanding.{refused_asks, listed_asks}
 use Rattle.domain_tables.specs.Held.{domain_in}
-use Rattle.provider.proofs.Replies.{same_reply}
 use Rattle.provider.proofs.long_message.Goals as goal
 
 pub returns-in-Done : goal.returns-in-Done
