@@ -23,23 +23,20 @@ pub enum Form {
     Words,
 }
 
-// Where the run stands: what is not taken of the input, what is filled of the output, the number of the next frame, and whether to go on.
+// Where the run stands: what is not taken of the input, what is filled of the output, and the number of the next frame.
 #[derive(Clone, Copy)]
 struct Turn {
     span: Span,
     filled: usize,
     number: u64,
-    more: bool,
 }
 
-// What was taken from the front of the input: its answer, if it prints a line, how many octets it is long, and whether the run goes on.
+// What stood at the front of the input: nothing, since it is over; no good frame, which ends the run; or a frame, which was played.
 #[derive(Clone, Copy)]
-struct Taken {
-    reply: u64,
-    sent: usize,
-    size: usize,
-    line: bool,
-    more: bool,
+enum Taken {
+    End,
+    Bad,
+    Played { answer: Answer, size: usize },
 }
 
 // An event of this kind on a connection.
@@ -61,48 +58,28 @@ fn event(
 }
 
 // Takes the frame at the front of s and plays it.
-fn take_frame(s: &[u8], d: &mut Domain, room: &mut [u8; ROOM]) -> Taken
-    ensures { result.size ≤ length s.now }
-{
+fn take_frame(s: &[u8], d: &mut Domain, room: &mut [u8; ROOM]) -> Taken {
     let found = trace_frames::next_frame(s);
     match found {
-        Frame::End => Taken {
-            reply: 0,
-            sent: 0,
-            size: 0,
-            line: false,
-            more: false,
-        },
-        Frame::Bad => Taken {
-            reply: u8::from(Reply::BadFrame) as u64,
-            sent: 0,
-            size: 0,
-            line: true,
-            more: false,
-        },
+        Frame::End => Taken::End,
+        Frame::Bad => Taken::Bad,
         Frame::Good {
             kind,
             connection,
             start,
             size,
-        } => {
-            let a = event(d, kind, connection, &s[start..size], room);
-            Taken {
-                reply: u8::from(a.reply) as u64,
-                sent: a.sent,
-                size,
-                line: true,
-                more: true,
-            }
-        }
+        } => Taken::Played {
+            answer: event(d, kind, connection, &s[start..size], room),
+            size,
+        },
     }
 }
 
-// The line of what was taken: the reply, octets sent, users, channels and tokens in use.
-fn report(taken: Taken, d: &Domain) -> Report {
+// The line of a frame: the reply, octets sent, users, channels and tokens in use.
+fn report(answer: Answer, d: &Domain) -> Report {
     Report {
-        reply: taken.reply,
-        sent: taken.sent as u64,
+        reply: u8::from(answer.reply) as u64,
+        sent: answer.sent as u64,
         users: serve_session::in_use(&d.users.ids) as u64,
         channels: serve_session::in_use(&d.channels.ids) as u64,
         tokens: serve_session::in_use(&d.tokens.ids) as u64,
@@ -178,7 +155,7 @@ fn behind(span: Span, size: usize) -> Span {
     }
 }
 
-// Takes one frame and shows it. The run goes on behind a good frame.
+// Takes one frame and shows it, and answers whether the run goes on: behind a good frame it does.
 fn step<R: Read>(
     source: &mut R,
     input: &mut [u8],
@@ -187,42 +164,40 @@ fn step<R: Read>(
     old_tokens: &mut Tokens,
     room: &mut [u8; ROOM],
     form: Form,
-    at: Turn,
-) -> Turn {
-    let have = at.span;
-    let span = trace_io::input::ready(source, input, have);
-    let from = span.from;
-    let to = span.to;
-    let taken = take_frame(&input[from..to], d, room);
-    let rest = behind(span, taken.size);
-    if !taken.line {
-        return Turn {
-            span: rest,
-            filled: at.filled,
-            number: at.number,
-            more: false,
-        };
-    }
-    let filled = show(
+    at: &mut Turn,
+) -> bool {
+    let span = trace_io::input::ready(source, input, at.span);
+    let taken = take_frame(&input[span.from..span.to], d, room);
+    let answer = match taken {
+        Taken::End => return false,
+        Taken::Bad => Answer {
+            reply: Reply::BadFrame,
+            sent: 0,
+        },
+        Taken::Played { answer, .. } => answer,
+    };
+    at.filled = show(
         output,
         at.filled,
         form,
         at.number,
-        &input[from..to],
-        report(taken, d),
+        &input[span.from..span.to],
+        report(answer, d),
         room,
         d,
         old_tokens,
     );
-    Turn {
-        span: rest,
-        filled,
-        number: at.number.wrapping_add(1),
-        more: taken.more,
+    match taken {
+        Taken::Played { size, .. } => {
+            at.span = behind(span, size);
+            at.number = at.number.wrapping_add(1);
+            true
+        }
+        _ => false,
     }
 }
 
-// A proved loop has to end, and nothing says that the input does: the loop counts its turns down from a number that no run uses up.
+// A proved loop has to end, and nothing says that the input does: the loop has a number of turns that no run uses up.
 fn play<R: Read>(
     source: &mut R,
     input: &mut [u8],
@@ -236,12 +211,11 @@ fn play<R: Read>(
         span: trace_io::input::start(),
         filled: 0,
         number: 1,
-        more: true,
     };
-    let mut turns = u64::MAX;
-    while turns > 0 && at.more {
-        at = step(source, input, output, d, old_tokens, room, form, at);
-        turns -= 1;
+    for _ in 0..u64::MAX {
+        if !step(source, input, output, d, old_tokens, room, form, &mut at) {
+            break;
+        }
     }
     let filled = show_end(output, at.filled, form, d);
     trace_io::lines::flush(output, filled);

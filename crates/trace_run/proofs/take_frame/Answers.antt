@@ -1,4 +1,4 @@
--- `trace_run::take_frame` meets its contract: a good frame lies in what is read. Assumes nothing.
+-- `trace_run::take_frame` is safe: a good frame lies in what is read. Assumes nothing.
 use Rattle.std.proofs.Common.{sym, ap, ◌∙◌}
 use Rattle.trace_frames.specs.Frames.{meaning}
 use Rattle.trace_frames.proofs.Laws.{inside}
@@ -12,6 +12,3 @@ slice_bounds-event-start c = (inside _ _ _ _ _ (sym c.next_frame-found.ensures �
 
 pub slice_bounds-event-end : goal.slice_bounds-event-end
 slice_bounds-event-end c = (inside _ _ _ _ _ (sym c.next_frame-found.ensures ∙ ap meaning c.in-Good.is)).1
-
-pub returns-in-Good : goal.returns-in-Good
-returns-in-Good c = (inside _ _ _ _ _ (sym c.next_frame-found.ensures ∙ ap meaning c.in-Good.is)).1
