@@ -5,9 +5,9 @@ use mathlib.Core.Bool.{Bool, true, false, not, ◌&&◌}
 use mathlib.Core.List.{List, [], ◌∷◌, ◌++◌}
 use Prim.Native.Nat.{ℕ, ◌+◌, ◌*◌, ◌≤◌, ◌<◌}
 use native.Mathlib.Omega.{arith}
-use lib.ListN.{length, take, get_or, length-append}
+use lib.ListN.{length, take, length-append}
 use Rattle.cols_spec.specs.Sets.{null, each, has, with, meet, connections, seats}
-use Rattle.cols_spec.specs.Places.{Place, At, Nowhere, find, load, number, in_order}
+use Rattle.cols_spec.specs.Places.{in_order}
 use Rattle.cols_spec.proofs.Order.{in_order_length}
 use Rattle.codec_table.specs.Named.{DUin, CDin, TVcf, no_such_user}
 use Rattle.out_records.specs.Records.{Sent, to, tell, wire, records, record_of}
@@ -21,11 +21,9 @@ use Rattle.domain.specs.declared.channel.Kind.{Kind}
 use Rattle.domain.specs.declared.channel.Kind.TheVariants.{Static, User, Private, Assigned}
 use Rattle.domain.specs.declared.token.Holding.{Holding}
 use Rattle.domain.specs.declared.token.Holding.TheVariants.{Free, Grabbed, Inhibited, Giving, Given}
-use Rattle.domain.specs.Cells.{no_channel, kind}
-use Rattle.domain.specs.Tables.{Users, Channels, Tokens, Domain, channel_cells, channels_of, name, link, hosts, state}
+use Rattle.domain.specs.Tables.{Users, Channels, Tokens, Domain, name, link, hosts, state}
 use Rattle.domain.specs.Tokens.{status, lose}
 use Rattle.domain.specs.Leaving.{ended, returned, farewell}
-use Rattle.domain.proofs.CellLaws.{channel_none}
 use Rattle.serve_leave_records.specs.Parts.{parting, kind_at, end_at, return_at}
 use Rattle.serve_leave_records.proofs.Rounds.{each_length}
 
@@ -71,15 +69,6 @@ parting_none live reason [] out e = put_nobody out 0
 parting_none live reason (x ∷ l) out e = absurd (omega arith)
 
 -- ---- CDin
-pub kind_found : (ids roles chairs guests marks : List ℕ) (c j : ℕ) → length roles ≤ length ids → j ≡ number (length ids) (find ids c)
-    → kind (get_or (channel_cells roles chairs guests marks) j no_channel) ≡ kind_at (channels_of ids roles chairs guests marks) c
-unfolding load number
-kind_found ids roles chairs guests marks c j h e = ap kind (go (find ids c) refl)
-  where
-    go : (w : Place) → find ids c ≡ w → get_or (channel_cells roles chairs guests marks) j no_channel ≡ load (channel_cells roles chairs guests marks) w no_channel
-    go (At i) q = ap (λ (k : ℕ). get_or (channel_cells roles chairs guests marks) k no_channel) (e ∙ ap (number (length ids)) q)
-    go Nowhere q = channel_none roles chairs guests marks j (let z : j ≡ length ids = e ∙ ap (number (length ids)) q in omega arith)
-
 CDin_length : (c : ℕ) → length (wire (CDin c)) ≡ 3
 CDin_length c = ap length (wire_CDin c)
 
@@ -92,6 +81,14 @@ module _ (us : Users) (gone live c g guests : ℕ) where
   pub ended_none : (out : List ℕ) (at : ℕ) → has gone g ≡ false → Puts out at (records (ended us gone live c (Private g guests))) out at
   unfolding ended
   ended_none out at h = rw h (put_nobody out at)
+
+-- of a channel that is not private
+pub ended_other : (us : Users) (gone live c : ℕ) (k : Kind) → ((g guests : ℕ) → k ≡ Private g guests → ⊥) → (out : List ℕ) (at : ℕ) → Puts out at (records (ended us gone live c k)) out at
+unfolding ended
+ended_other us gone live c Static n out at = put_nobody out at
+ended_other us gone live c User n out at = put_nobody out at
+ended_other us gone live c Assigned n out at = put_nobody out at
+ended_other us gone live c (Private g adm) n out at = absurd (n g adm refl)
 
 pub ended_length : (us : Users) (gone live c : ℕ) (k : Kind) → length (records (ended us gone live c k)) ≤ 112
 unfolding ended
@@ -138,6 +135,15 @@ module _ (us : Users) (gone k g r : ℕ) where
   refusal_put {out} {o} {m} q result u s h a b c d e f l p =
       let z : m ≡ wire (TVcf no_such_user (name us g) k (status (lose gone (Giving g r)) g)) = f ∙ rw (b, c, d, a) refl in
       rw (← e) (put_sent _ m z l (omega (arith, ap length z, TVcf_length (name us g) k (status (lose gone (Giving g r)) g))) q p)
+
+-- of a token that is not being given
+pub returned_other : (us : Users) (gone k : ℕ) (h : Holding) → ((g r : ℕ) → h ≡ Giving g r → ⊥) → (out : List ℕ) (at : ℕ) → Puts out at (records (returned us gone k h)) out at
+unfolding returned
+returned_other us gone k Free n out at = put_nobody out at
+returned_other us gone k (Grabbed g) n out at = put_nobody out at
+returned_other us gone k (Inhibited is) n out at = put_nobody out at
+returned_other us gone k (Given r) n out at = put_nobody out at
+returned_other us gone k (Giving g r) n out at = absurd (n g r refl)
 
 pub returned_length : (us : Users) (gone k : ℕ) (h : Holding) → length (records (returned us gone k h)) ≤ 11
 unfolding returned

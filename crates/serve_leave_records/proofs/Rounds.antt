@@ -1,7 +1,7 @@
 -- Records for each id of a column, ascending: what is still to come, and how many octets they take.
 use mathlib.Core.Path.{◌≡◌, refl, sym, ap, ◌∙◌}
 use mathlib.Core.List.{List, [], ◌∷◌, ◌++◌}
-use Prim.Native.Nat.{ℕ, zero, suc, ◌-◌, ◌*◌, ◌≤◌, ◌<◌, zero-le}
+use Prim.Native.Nat.{ℕ, zero, suc, ◌*◌, ◌≤◌, zero-le}
 use native.Mathlib.Nat.{suc-mul}
 use native.Mathlib.Omega.{arith}
 use lib.ListN.{length, length-append}
@@ -26,10 +26,9 @@ module _ (f : ℕ → List Sent) where
   coming_none low ids (suc n) h = absurd (omega arith)
 
   module _ (low : ℕ) (ids : List ℕ) (x : ℕ) (e : x ≡ next low 0 ids) where
-    pub coming_next : (left : ℕ) → 0 < left → (x ≡ 0 → ⊥) → coming left low ids ≡ records (f x) ++ coming (left - 1) x ids
+    pub coming_next : (left rest : ℕ) → left ≡ suc rest → (x ≡ 0 → ⊥) → coming left low ids ≡ records (f x) ++ coming rest x ids
     unfolding coming each
-    coming_next zero h n = absurd (omega arith)
-    coming_next (suc left) h n = let q : suc left - 1 ≡ left = omega arith in rw (q, rising_turn left low ids x (sym e) (omega arith)) (records_append (f x) (each f (rising left x ids)))
+    coming_next left rest h n = rw (h, rising_turn rest low ids x (sym e) (omega arith)) (records_append (f x) (each f (rising rest x ids)))
 
     pub coming_end : (left : ℕ) → x ≡ 0 → coming left low ids ≡ []
     unfolding coming each

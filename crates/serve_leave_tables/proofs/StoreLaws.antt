@@ -1,31 +1,31 @@
 -- What becomes of a user's place and of a token's, and the tables once every place is swept.
-use mathlib.Core.Path.{◌≡◌, refl, sym, ap, ◌∙◌}
+use mathlib.Core.Path.{◌≡◌, refl, sym}
 use mathlib.Core.Bool.{Bool, true, false}
 use mathlib.Core.List.{List, [], ◌∷◌}
-use Prim.Native.Nat.{ℕ, ◌≤◌, ◌<◌}
+use Prim.Native.Nat.{ℕ, ◌≤◌}
 use native.Mathlib.Omega.{arith}
 use lib.Dec.{eqb}
 use lib.ListN.{length, get_or, set}
+use lib.Seq.{set-get_or}
 use borrow.Author.Tests.{eqb-true, eqb-false}
 use Rattle.cols_spec.specs.Sets.{has, NextIn}
-use Rattle.cols_spec.specs.Places.{becomes}
+use Rattle.cols_spec.specs.Places.{At, found, store, load}
 use Rattle.cols_spec.specs.Swept.{Turns}
 use Rattle.domain.specs.declared.token.Holding.{Holding}
 use Rattle.domain.specs.declared.token.Holding.TheVariants.{Free, Grabbed, Inhibited, Giving, Given}
-use Rattle.domain.specs.declared.token.Token.{Token}
 use Rattle.domain.specs.Cells.{no_token, hold, token_of}
-use Rattle.domain.specs.Tables.{users_of, stays_on, remove_users, tokens_of, token_cells, is_free, sweep_tokens}
+use Rattle.domain.specs.Tables.{Tokens, users_of, stays_on, remove_users, tokens_of, token_cells, is_free, sweep_tokens}
 use Rattle.domain.specs.Tokens.{lose}
-use Rattle.domain.proofs.CellLaws.{token, token_at, token_set}
-use Rattle.serve_leave_tables.specs.Fates.{ends, loses}
+use Rattle.domain_tables.specs.Numbered.{set_at}
+use Rattle.serve_leave_tables.specs.Fates.{loses}
 use Rattle.cols_spec.proofs.Nexts.{next_behind}
 use Rattle.cols_spec.proofs.Sweeps.{turn_free, turn_ends, turn_stays, turn_keeps, Sweeps, sweeps_start, sweeps_past, sweeps_end}
 
 -- ---- users
 module _ (gone i : ℕ) (xs cs : List ℕ) where
-  pub user_leaves : {ys ds : List ℕ} → has gone i ≡ true → Turns 0 ends i xs cs ys ds → Turns 0 (stays_on gone) i xs cs ys ds
-  unfolding stays_on becomes
-  user_leaves h t = record { ids = rw h t.ids; cells = rw h t.cells }
+  pub user_leaves : has gone i ≡ true → (get_or xs i 0 ≡ 0 → ⊥) → Turns 0 (stays_on gone) i xs cs (set xs i 0) (set cs i 0)
+  unfolding stays_on
+  user_leaves h n = turn_ends 0 (stays_on gone) i xs cs n (rw h refl)
 
   pub user_stays : has gone i ≡ false → Turns 0 (stays_on gone) i xs cs xs cs
   unfolding stays_on
@@ -44,27 +44,24 @@ unfolding remove_users
 users_swept gone i xs₀ cs₀ xs cs s h = let e = sweeps_end 0 (stays_on gone) s h in rw (e.0, e.1) refl
 
 -- ---- tokens
-free_blank : (h : Holding) → is_free h ≡ true → token_of h ≡ no_token
-unfolding is_free token_of
-free_blank Free e = refl
-free_blank (Grabbed g) e = cc
-free_blank (Inhibited us) e = cc
-free_blank (Giving g r) e = cc
-free_blank (Given r) e = cc
+-- the token at place j, as the code stores it there
+module _ (gone j : ℕ) (ts : Tokens) (n : get_or ts.ids j 0 ≡ 0 → ⊥) where
+  abbrev Turned : Tokens → Type 0
+  Turned us = Turns no_token (loses gone) j ts.ids ts.cells us.ids us.cells
 
-module _ (gone i : ℕ) (keys ms vs : List ℕ) (a : i < length ms) (b : i < length vs) (n : get_or keys i 0 ≡ 0 → ⊥)
-    (h : Holding) (e : h ≡ lose gone (hold (token (get_or ms i 0) (get_or vs i 0)))) (t : Token) (z : t ≡ token_of h) where
-  abbrev After : List ℕ → Type 0
-  After ks = Turns no_token (loses gone) i keys (token_cells ms vs) ks (token_cells (set ms i t.mode) (set vs i t.value))
+  pub token_turns : (us : Tokens) (h : Holding) → h ≡ lose gone (hold (load ts.cells (At j) no_token)) → us ≡ set_at ts (At j) (get_or ts.ids j 0) (token_of h) → Turned us
+  unfolding set_at store load found token_of is_free
+  token_turns us h e w = rw w (go h (sym e))
+    where
+      stays : (h : Holding) → lose gone (hold (get_or ts.cells j no_token)) ≡ h → is_free h ≡ false → Turned (record { ids = set ts.ids j (get_or ts.ids j 0); cells = set ts.cells j (token_of h) })
+      stays h q f = rw (set-get_or ts.ids j 0) (turn_stays no_token (loses gone) j ts.ids ts.cells n (token_of h) (rw (q, f) refl))
 
-  here : lose gone (hold (get_or (token_cells ms vs) i no_token)) ≡ h
-  here = ap (λ (x : Token). lose gone (hold x)) (token_at ms vs i a b) ∙ sym e
-
-  pub token_ends : is_free h ≡ true → After (set keys i 0)
-  token_ends f = rw (token_set ms vs i t.mode t.value, z ∙ free_blank h f) (turn_ends no_token (loses gone) i keys (token_cells ms vs) n (rw (here, f) refl))
-
-  pub token_stays : is_free h ≡ false → After keys
-  token_stays f = rw (token_set ms vs i t.mode t.value) (turn_stays no_token (loses gone) i keys (token_cells ms vs) n t (rw (here, f, z) refl))
+      go : (h : Holding) → lose gone (hold (get_or ts.cells j no_token)) ≡ h → Turned (set_at ts (At j) (get_or ts.ids j 0) (token_of h))
+      go Free q = turn_ends no_token (loses gone) j ts.ids ts.cells n (rw q refl)
+      go (Grabbed g) q = stays (Grabbed g) q refl
+      go (Inhibited us) q = stays (Inhibited us) q refl
+      go (Giving g r) q = stays (Giving g r) q refl
+      go (Given r) q = stays (Given r) q refl
 
 pub tokens_start : (gone : ℕ) (keys ms vs : List ℕ) → length keys ≡ 64 → length ms ≡ 64 → length vs ≡ 64
     → Sweeps no_token (loses gone) 64 keys (token_cells ms vs) 0 keys (token_cells ms vs)

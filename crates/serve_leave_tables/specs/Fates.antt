@@ -11,10 +11,6 @@ use Rattle.domain.specs.Tables.{Users, hosts, narrowed, is_free}
 use Rattle.domain.specs.Channels.{private_marks}
 use Rattle.domain.specs.Tokens.{lose}
 
--- a user: gone, whoever it is
-abbrev pub ends : (i u home : ℕ) → Option ℕ
-ends i u home = none
-
 -- a token: its state without those who leave, or none where it is free
 abbrev pub loses : (gone i k : ℕ) (t : Token) → Option Token
 loses gone i k t = if is_free (lose gone (hold t)) then none else some (token_of (lose gone (hold t)))

@@ -1,32 +1,20 @@
 // The users' table without those who leave.
-ghost use Rattle.std.specs.Prelude.{◌≡◌, ◌<◌};
-ghost use Rattle.cols_spec.specs.Swept.{Turns};
+ghost use Rattle.std.specs.Prelude.{◌≡◌};
 ghost use Rattle.domain.specs.Tables.{remove_users};
-ghost use Rattle.domain.specs.Lent.{users_after, users_before};
-ghost use Rattle.serve_leave_tables.specs.Fates.{ends};
+ghost use Rattle.domain_tables.specs.Held.{users_in};
 
-// The user at place j leaves; a free place stays as it is.
-fn leave_place(user_ids: &mut [u16; 64], user_links: &mut [u8; 64], j: usize)
-    requires { j < 64 }
-    ensures { Turns 0 ends j user_ids.old user_links.old user_ids.new user_links.new }
-{
-    if user_ids[j] == 0 {
-        return;
-    }
-    user_ids[j] = 0;
-    user_links[j] = 0;
-}
+use domain_tables::Users;
 
-// The users at the places of a mask leave.
-pub fn leave(user_ids: &mut [u16; 64], user_links: &mut [u8; 64], gone: u64)
-    ensures { users_after user_ids user_links ≡ remove_users (users_before user_ids user_links) gone }
+// The users at the places of a mask leave; a free place stays as it is.
+pub fn leave(users: &mut Users, gone: u64)
+    ensures { users_in users.new ≡ remove_users (users_in users.old) gone }
 {
-    // How long the columns are: what the loop keeps.
-    let n = user_ids[..].len();
-    let m = user_links[..].len();
     let mut j = cols_masks::next_in(gone, 0);
     while j < 64 {
-        leave_place(user_ids, user_links, j);
+        if users.ids[j] != 0 {
+            users.ids[j] = 0;
+            users.links[j] = 0;
+        }
         j = cols_masks::next_in(gone, j + 1);
     }
 }

@@ -8,7 +8,7 @@ use Rattle.serve_leave_records.proofs.Marking.{those_before}
 use Rattle.serve_leave_records.proofs.find_ends.Given as goal
 
 abbrev pub invariant-loop-j : goal.invariant-loop-j
-invariant-loop-j l = (length l.channel_ids ≡ 128) × (length l.channel_kinds ≡ 128) × Marks (those_before (ends_there l.gone l.channel_kinds l.managers) l.channel_ids l.j) l.e
+invariant-loop-j l = (length l.channels.ids ≡ 128) × (length l.channels.kinds ≡ 128) × Marks (those_before (ends_there l.gone l.channels.kinds l.channels.managers) l.channels.ids l.j) l.e
 
 abbrev pub decreases-loop-j : goal.decreases-loop-j
 decreases-loop-j l = 128 - l.j

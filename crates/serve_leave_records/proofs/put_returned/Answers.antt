@@ -1,30 +1,16 @@
 use mathlib.Core.Path.{sym, ◌∙◌}
-use Rattle.out_records.proofs.Telling.{put_nobody}
-use Rattle.domain.specs.Leaving.{returned}
-use Rattle.serve_leave_records.proofs.Parts.{returned_some, returned_both, returned_none}
+use Rattle.serve_leave_records.proofs.Parts.{returned_some, returned_both, returned_none, returned_other}
 use Rattle.serve_leave_records.proofs.put_returned.Goals as goal
+use Rattle.serve_leave_records.proofs.put_returned.Goals.{else-has-via-then-has+else-not-has, else-has-via-else-has}
 
-pub returns-then-has-2 : goal.returns-then-has-2
-returns-then-has-2 c = rw c.in-Giving.is (returned_both _ _ _ _ _ _ _ (sym c.has.ensures ∙ c.if-has.true) (sym c.has-then-has.ensures ∙ c.if-has-2.true))
-
-pub returns-then-has : goal.returns-then-has
-returns-then-has c = rw c.in-Giving.is (returned_some _ _ _ _ _ (sym c.has.ensures ∙ c.if-has.true) (sym c.has-then-has.ensures ∙ c.if-has-2.false) c.put_refusal.ensures)
+pub returns-then-not-has : goal.returns-then-not-has
+returns-then-not-has c = rw c.in-Giving.is (returned_some _ _ _ _ _ (sym c.has.ensures ∙ c.if-has.true) (sym c.has-then-has.ensures ∙ c.if-not-has.true) c.put_refusal.ensures)
 
 pub returns-else-has : goal.returns-else-has
-returns-else-has c = rw c.in-Giving.is (returned_none _ _ _ _ _ _ _ (sym c.has.ensures ∙ c.if-has.false))
+returns-else-has c = rw c.in-Giving.is (elim c.else-has.branch [
+  | else-has-via-then-has+else-not-has w ↦ returned_both _ _ _ _ _ _ _ (sym c.has.ensures ∙ w.if-has.true) (sym w.has-then-has.ensures ∙ w.if-not-has.false)
+  | else-has-via-else-has w ↦ returned_none _ _ _ _ _ _ _ (sym c.has.ensures ∙ w.if-has.false)
+])
 
-pub returns-in-Free : goal.returns-in-Free
-unfolding returned
-returns-in-Free c = rw c.in-Free.is (put_nobody _ _)
-
-pub returns-in-Grabbed : goal.returns-in-Grabbed
-unfolding returned
-returns-in-Grabbed c = rw c.in-Grabbed.is (put_nobody _ _)
-
-pub returns-in-Inhibited : goal.returns-in-Inhibited
-unfolding returned
-returns-in-Inhibited c = rw c.in-Inhibited.is (put_nobody _ _)
-
-pub returns-in-Given : goal.returns-in-Given
-unfolding returned
-returns-in-Given c = rw c.in-Given.is (put_nobody _ _)
+pub returns-in_default : goal.returns-in_default
+returns-in_default c = returned_other _ _ _ c.args.h c.in_default.not-Giving _ _

@@ -8,7 +8,7 @@ use Rattle.domain.specs.Tables.{stays_on}
 use Rattle.serve_leave_tables.proofs.users.leave.Given as goal
 
 abbrev pub invariant-loop-j : goal.invariant-loop-j
-invariant-loop-j l = (l.j < 64 → has l.gone l.j ≡ true) × Sweeps 0 (stays_on l.gone) 64 l.initial.user_ids l.initial.user_links l.j l.user_ids l.user_links
+invariant-loop-j l = (l.j < 64 → has l.gone l.j ≡ true) × Sweeps 0 (stays_on l.gone) 64 l.initial.users.ids l.initial.users.links l.j l.users.ids l.users.links
 
 abbrev pub decreases-loop-j : goal.decreases-loop-j
 decreases-loop-j l = 64 - l.j
