@@ -97,20 +97,19 @@ module _ {us : Users} {p : ℕ} {all kept list : List ℕ} {t : Leavers} {low re
         go true q = or_elim (eqb y u) false q (λ r. omega (arith, eqb-true y u r)) (λ r. absurd (false≢true r))
         go false q = absurd (false≢true q)
 
-    pub gather_turn : {after : List ℕ} {r : Leavers} → 0 < rest → Adds us p u list t after r → Gathering us p all kept after r u (rest - 1)
-    gather_turn h g =
+    pub gather_turn : {after : List ℕ} {r : Leavers} (less : ℕ) → rest ≡ suc less → Adds us p u list t after r → Gathering us p all kept after r u less
+    gather_turn less h g =
         record {
           room = omega (arith, g.few, s.room);
           done = with_leaver us p s.done u;
           leaves = g.grows s.done s.leaves;
           under = not_above;
-          left = s.left ∙ ap (λ (l : List ℕ). s.done ++ those_on us p l) (go rest h) ∙ ap (λ (l : List ℕ). s.done ++ l) (on_append us p (u ∷ []) (rising (rest - 1) u kept))
-              ∙ sym (append_assoc s.done (those_on us p (u ∷ [])) (those_on us p (rising (rest - 1) u kept))) ∙ ap (λ (l : List ℕ). l ++ those_on us p (rising (rest - 1) u kept)) (sym one_on);
+          left = s.left ∙ ap (λ (l : List ℕ). s.done ++ those_on us p l) next_first ∙ ap (λ (l : List ℕ). s.done ++ l) (on_append us p (u ∷ []) (rising less u kept))
+              ∙ sym (append_assoc s.done (those_on us p (u ∷ [])) (those_on us p (rising less u kept))) ∙ ap (λ (l : List ℕ). l ++ those_on us p (rising less u kept)) (sym one_on);
         }
       where
-        go : (k : ℕ) → 0 < k → rising k low kept ≡ u ∷ rising (k - 1) u kept
-        go zero y = absurd (omega arith)
-        go (suc k) y = let q : suc k - 1 ≡ k = omega arith in rw q (rising_turn k low kept u (sym e) (omega arith))
+        next_first : rising rest low kept ≡ u ∷ rising less u kept
+        next_first = rw h (rising_turn less low kept u (sym e) (omega arith))
 
   ends : rising rest low kept ≡ [] → Leaves us all list t
   ends z = rw (s.left ∙ ap (λ (l : List ℕ). s.done ++ those_on us p l) z ∙ ap (λ (l : List ℕ). s.done ++ l) (on_none us p) ∙ append-nil s.done) s.leaves

@@ -7,11 +7,12 @@ use Prim.Native.Nat.{ℕ, zero, suc, ◌+◌, ◌≤◌, ◌<◌, zero-le}
 use native.Mathlib.Numerals.{add-one}
 use native.Mathlib.Omega.{arith}
 use lib.Dec.{eqb}
-use lib.ListN.{length, set, take, length-set}
+use lib.ListN.{length, get_or, set, take, length-set}
 use lib.Seq.{take-suc-set, get_or-set_other}
 use Rattle.cols_spec.specs.Sets.{null, member, has, with, seats}
 use Rattle.cols_spec.specs.Places.{Place, At, Nowhere, find, found, number}
-use Rattle.cols_spec.proofs.Answers.{find_inside, number_at, number_none}
+use Rattle.cols_spec.proofs.Answers.{find_inside}
+use Rattle.cols_spec.proofs.Rows.{find_holds}
 use Rattle.domain.specs.Tables.{Users, link, attached}
 use Rattle.domain.proofs.Listed.{places_has}
 use Rattle.domain_tables.proofs.Marking.{places_none, places_more}
@@ -37,6 +38,10 @@ attached_find us p u i = go (find us.ids u)
     go (At j) = pick j (eqb (link us j) p)
     go Nowhere = λ e. e
 
+-- it is the user that stands there
+pub attached_there : (us : Users) (p u i : ℕ) → attached us p u ≡ At i → (get_or us.ids i 0 ≡ u) × (i < length us.ids)
+attached_there us p u i e = let h = find_holds us.ids u i (attached_find us p u i e) in (h.0, h.1)
+
 -- ---- one user more: what the search for it answers decides
 module _ (us : Users) (p u : ℕ) (list : List ℕ) (t : Leavers) where
   joined_same : (ids : List ℕ) → (found (attached us p u) && not (member u ids)) ≡ false → ids ≡ with_leaver us p ids u
@@ -46,36 +51,34 @@ module _ (us : Users) (p u : ℕ) (list : List ℕ) (t : Leavers) where
   stays : ((ids : List ℕ) → Leaves us ids list t → (found (attached us p u) && not (member u ids)) ≡ false) → Adds us p u list t list t
   stays f = record { grows = λ ids h. rw (← joined_same ids (f ids h)) h; few = omega arith; behind = λ j h. refl }
 
-  module _ (j : ℕ) (is : j ≡ number 64 (attached us p u)) where
-    pub adds_nobody : length us.ids ≡ 64 → 64 ≤ j → Adds us p u list t list t
+  pub adds_nobody : attached us p u ≡ Nowhere → Adds us p u list t list t
+  unfolding found
+  adds_nobody e = stays (λ ids l. rw e refl)
+
+  module _ (size : length us.ids ≡ 64) (j : ℕ) (here : attached us p u ≡ At j) where
+    -- a place has one user
+    seen : (ids : List ℕ) → Leaves us ids list t → has t.seats j ≡ member u ids
+    seen ids l =
+        let is = attached_find us p u j here in
+        ap (λ (m : ℕ). has m j) l.seated ∙ places_has us u j is (omega (arith, find_inside us.ids u j is)) ids
+
+    pub adds_again : has t.seats j ≡ true → Adds us p u list t list t
     unfolding found
-    adds_nobody size h = stays (λ ids l. rw (number_none 64 (attached us p u) j is (λ i e. omega (arith, find_inside us.ids u i (attached_find us p u i e))) h) refl)
+    adds_again e = stays (λ ids l. rw (here, sym (seen ids l) ∙ e) refl)
 
-    module _ (low : j < 64) where
-      here : attached us p u ≡ At j
-      here = number_at 64 (attached us p u) j is low
-
-      -- a place has one user
-      seen : (ids : List ℕ) → Leaves us ids list t → has t.seats j ≡ member u ids
-      seen ids l = ap (λ (m : ℕ). has m j) l.seated ∙ places_has us u j (attached_find us p u j here) low ids
-
-      pub adds_again : has t.seats j ≡ true → Adds us p u list t list t
-      unfolding found
-      adds_again e = stays (λ ids l. rw (here, sym (seen ids l) ∙ e) refl)
-
-      pub adds_new : has t.seats j ≡ false → t.count < 64 → length list ≡ 64 → (mask : ℕ) → mask ≡ with seats t.seats j
-          → Adds us p u list t (set list t.count u) (record { count = t.count + 1; seats = mask })
-      unfolding found with_leaver number
-      adds_new e h size mask m = record {
-        grows = λ ids l. rw (here, sym (seen ids l) ∙ e) (record {
-          held = rw (add-one t.count) (take-suc-set list t.count u (omega arith)) ∙ ap (λ (l : List ℕ). l ++ u ∷ []) l.held;
-          few = omega arith;
-          inside = omega (arith, length-set list t.count u);
-          seated = m ∙ places_more us ids u t.seats j l.seated (sym (ap (number 64) (attached_find us p u j here)));
-        });
+    pub adds_new : has t.seats j ≡ false → t.count < 64 → length list ≡ 64 → (mask : ℕ) → mask ≡ with seats t.seats j
+        → Adds us p u list t (set list t.count u) (record { count = t.count + 1; seats = mask })
+    unfolding found with_leaver number
+    adds_new e h size mask m = record {
+      grows = λ ids l. rw (here, sym (seen ids l) ∙ e) (record {
+        held = rw (add-one t.count) (take-suc-set list t.count u (omega arith)) ∙ ap (λ (l : List ℕ). l ++ u ∷ []) l.held;
         few = omega arith;
-        behind = λ k a. get_or-set_other list t.count k u 0 (λ q. omega arith);
-      }
+        inside = omega (arith, length-set list t.count u);
+        seated = m ∙ places_more us ids u t.seats j l.seated (sym (ap (number 64) (attached_find us p u j here)));
+      });
+      few = omega arith;
+      behind = λ k a. get_or-set_other list t.count k u 0 (λ q. omega arith);
+    }
 
 -- ---- nobody is listed where the count is 0, and only there
 module _ {us : Users} {ids list : List ℕ} {t : Leavers} (h : Leaves us ids list t) where

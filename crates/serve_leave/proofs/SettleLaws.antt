@@ -17,7 +17,7 @@ use Rattle.out_records.specs.Out.{Puts}
 use Rattle.domain.specs.declared.Limits.{Limits}
 use Rattle.domain.specs.Tables.{Users, Channels, Tokens, Domain, attached, remove_users, sweep_channels, sweep_tokens}
 use Rattle.domain.specs.Tokens.{lose}
-use Rattle.domain.specs.Effects.{Effect, settled, delivers, settle}
+use Rattle.domain.specs.Effects.{Settled, settled, delivers, settle}
 use Rattle.domain.specs.Leaving.{fate, farewell, leave, those_on, detach, close}
 use Rattle.domain.proofs.Effects.{delivers_full, delivers_done}
 use Rattle.serve_leave.specs.declared.Leavers.{Leavers}
@@ -25,9 +25,6 @@ use Rattle.serve_leave.specs.Lists.{Leaves}
 use Rattle.serve_leave.proofs.LeaverLaws.{chosen}
 use Rattle.serve_leave_tables.specs.Fates.{fate_by}
 use Rattle.serve_leave_tables.proofs.ListedFates.{listed_fates}
-
-abbrev pub domain : (l : Limits) (m : ℕ) (us : Users) (cs : Channels) (ts : Tokens) → Domain
-domain l m us cs ts = record { limits = l; links = m; users = us; channels = cs; tokens = ts }
 
 -- those on p are users
 on_users : (us : Users) (p : ℕ) (xs : List ℕ) (u : ℕ) → member u (those_on us p xs) ≡ true → found (find us.ids u) ≡ true
@@ -39,60 +36,51 @@ on_users us p xs u e = go (find us.ids u) (and_parts _ _ (sym (member_keep (λ v
     go Nowhere h = h
 
 -- ---- those of `xs` leave who are on p: they are listed, and their places are known
-module _ (l : Limits) (m : ℕ) (us : Users) (cs : Channels) (ts : Tokens) (live reason : ℕ) (out : List ℕ) (p : ℕ) (xs list : List ℕ) (who : Leavers)
-    (h : Leaves us (those_on us p xs) list who) where
-  abbrev before : Domain
-  before = domain l m us cs ts
+module _ (d : Domain) (live reason : ℕ) (out : List ℕ) (p : ℕ) (xs list : List ℕ) (who : Leavers) (h : Leaves d.users (those_on d.users p xs) list who) where
+  abbrev tables : (us : Users) (cs : Channels) (ts : Tokens) → Domain
+  tables us cs ts = record { limits = d.limits; links = live; users = us; channels = cs; tokens = ts }
 
   abbrev after : Domain
-  after = domain l live (remove_users us who.seats) (sweep_channels (fate us who.seats live) cs) (sweep_tokens (lose who.seats) ts)
+  after = tables (remove_users d.users who.seats) (sweep_channels (fate d.users who.seats live) d.channels) (sweep_tokens (lose who.seats) d.tokens)
 
   abbrev told : List Sent
-  told = farewell before who.seats live reason (take who.count list)
+  told = farewell d who.seats live reason (take who.count list)
 
-  leaves : delivers 0 before after told out ≡ settle before (leave before live reason (those_on us p xs)) out
+  leaves : delivers 0 d after told out ≡ settle d (leave d live reason (those_on d.users p xs)) out
   unfolding leave settle
   leaves = rw (h.held, h.seated) refl
 
-  same_fates : length us.ids ≡ 64 → sweep_channels (fate_by us (take who.count list) who.seats live) cs ≡ sweep_channels (fate us who.seats live) cs
-  same_fates size = rw (h.held, h.seated) (listed_fates us size (those_on us p xs) (on_users us p xs) live cs)
+  same_fates : length d.users.ids ≡ 64 → sweep_channels (fate_by d.users (take who.count list) who.seats live) d.channels ≡ sweep_channels (fate d.users who.seats live) d.channels
+  same_fates size = rw (h.held, h.seated) (listed_fates d.users size (those_on d.users p xs) (on_users d.users p xs) live d.channels)
 
   module _ (k : ℕ) where
-    pub leave_full : k ≡ length (records told) → length out < k → settled 9 0 before out ≡ settle before (leave before live reason (those_on us p xs)) out
-    leave_full size few = delivers_full 0 before after told out k (size ∙ sym (zero-add _)) few ∙ leaves
+    pub leave_full : k ≡ length (records told) → length out < k → settled 9 0 d out ≡ settle d (leave d live reason (those_on d.users p xs)) out
+    leave_full size few = delivers_full 0 d after told out k (size ∙ sym (zero-add _)) few ∙ leaves
 
-    pub leave_done : length us.ids ≡ 64 → k ≤ length out → (us' : Users) (cs' : Channels) (ts' : Tokens) (o : List ℕ) → us' ≡ remove_users us who.seats
-        → cs' ≡ sweep_channels (fate_by us (take who.count list) who.seats live) cs → ts' ≡ sweep_tokens (lose who.seats) ts → Puts out 0 (records told) o k
-        → settled 0 k (domain l live us' cs' ts') o ≡ settle before (leave before live reason (those_on us p xs)) out
-    leave_done size fits us' cs' ts' o u v w put = rw (u, v ∙ same_fates size, w) (delivers_done 0 before after told out k put.next fits out o k refl put ∙ leaves)
+    pub leave_done : length d.users.ids ≡ 64 → k ≤ length out → (us : Users) (cs : Channels) (ts : Tokens) (o : List ℕ) → us ≡ remove_users d.users who.seats
+        → cs ≡ sweep_channels (fate_by d.users (take who.count list) who.seats live) d.channels → ts ≡ sweep_tokens (lose who.seats) d.tokens → Puts out 0 (records told) o k
+        → settled 0 k (tables us cs ts) o ≡ settle d (leave d live reason (those_on d.users p xs)) out
+    leave_done size fits us cs ts o u v w put = rw (u, v ∙ same_fates size, w) (delivers_done 0 d after told out k put.next fits out o k refl put ∙ leaves)
 
--- ---- DUrq, or p closes
--- what the test says: nobody is listed for a DUrq, or not so
-module _ (n : ℕ) (closes : Bool) where
-  pub none_listed : (eqb n 0 && not closes) ≡ true → (n ≡ 0) × (closes ≡ false)
-  none_listed t = let both = and_parts (eqb n 0) (not closes) t in (eqb-true n 0 both.0, not-true closes both.1)
+-- ---- p closes, or DUrq
+module _ (d : Domain) (p : ℕ) (ids out : List ℕ) where
+  -- what is answered where those leave who are listed
+  abbrev Leaving : (answer : Settled Domain) (list : List ℕ) (t : Leavers × ℕ × ℕ) → Type 0
+  Leaving answer list t = (q : ℕ) (us : List ℕ) → Leaves d.users (those_on d.users q us) list t.0 → answer ≡ settle d (leave d t.1 t.2 (those_on d.users q us)) out
 
-  pub some_listed : (eqb n 0 && not closes) ≡ false → closes ≡ false → n ≡ 0 → ⊥
-  some_listed t e z = true≢false (rw (z, e) at t)
+  module _ {answer : Settled Domain} {list after : List ℕ} {t : Leavers × ℕ × ℕ} {who : Leavers} {live reason : ℕ} (done : Leaving answer list t) (e : list ≡ after) (f : t ≡ (who, live, reason)) where
+    pub closing : Leaves d.users (those_on d.users p (in_order d.users.ids)) after who → live ≡ without connections d.links p → reason ≡ 0 → answer ≡ settle d (close d p) out
+    unfolding close
+    closing h a b = rw (f, a, b) at (done p (in_order d.users.ids) (rw (e, f) h))
 
-module _ (d : Domain) (p reason : ℕ) (ids out : List ℕ) where
-  abbrev pub listed : Bool → List ℕ
-  listed closes = those_on d.users p (if closes then in_order d.users.ids else once ids)
+  abbrev listed : List ℕ
+  listed = those_on d.users p (once ids)
 
-  abbrev pub departs : Bool → Effect Domain
-  departs closes = if closes then close d p else detach d p reason ids
-
-  pub depart_nobody : (closes : Bool) → closes ≡ false → null (listed closes) ≡ true → settled 1 0 d out ≡ settle d (departs closes) out
+  pub detach_nobody : (reason : ℕ) → null listed ≡ true → settled 1 0 d out ≡ settle d (detach d p reason ids) out
   unfolding detach settle
-  depart_nobody true e z = absurd (true≢false e)
-  depart_nobody false e z = rw z refl
+  detach_nobody reason z = rw z refl
 
-  pub depart_some : (closes : Bool) (live why : ℕ) → live ≡ (if closes then without connections d.links p else d.links) → why ≡ (if closes then 0 else reason)
-      → (closes ≡ false → null (listed closes) ≡ false) → settle d (leave d live why (listed closes)) out ≡ settle d (departs closes) out
-  unfolding close detach
-  depart_some true live why e r z = rw (e, r) refl
-  depart_some false live why e r z = rw (e, r, z refl) refl
-
--- a contract for any limits, used for these
-abbrev pub no_limits : Limits
-no_limits = record { channels = 0; users = 0; tokens = 0 }
+  module _ {answer : Settled Domain} {list after : List ℕ} {t : Leavers × ℕ × ℕ} {who : Leavers} (reason : ℕ) (done : Leaving answer list t) (e : list ≡ after) (f : t ≡ (who, d.links, reason)) where
+    pub detach_some : Leaves d.users listed after who → null listed ≡ false → answer ≡ settle d (detach d p reason ids) out
+    unfolding detach
+    detach_some h z = rw z (rw f at (done p (once ids) (rw (e, f) h)))

@@ -229,7 +229,8 @@ fn put_returned(out: &mut [u8], at: usize, users: &Users, gone: u64, k: u16, h: 
 // TVcf for each token that returns to its giver, ascending.
 fn put_returns(out: &mut [u8], from: usize, users: &Users, tokens: &Tokens, gone: u64) -> usize
     requires { from ≤ 32768 }
-    ensures { Puts out.old from (records_of (each (return_at (users_in users.now) (tokens_in tokens.now) gone) (in_order tokens.now.ids))) out.new result }
+    ensures { (Puts out.old from (records_of (each (return_at (users_in users.now) (tokens_in tokens.now) gone) (in_order tokens.now.ids))) out.new result)
+        × (result ≤ from + 704) }
 {
     let mut at = from;
     let mut low: u16 = 0;
@@ -247,7 +248,8 @@ fn put_returns(out: &mut [u8], from: usize, users: &Users, tokens: &Tokens, gone
 // The same; most often no token is being given, mode 3.
 fn put_any_returns(out: &mut [u8], from: usize, users: &Users, tokens: &Tokens, gone: u64) -> usize
     requires { from ≤ 32768 }
-    ensures { Puts out.old from (records_of (each (return_at (users_in users.now) (tokens_in tokens.now) gone) (in_order tokens.now.ids))) out.new result }
+    ensures { (Puts out.old from (records_of (each (return_at (users_in users.now) (tokens_in tokens.now) gone) (in_order tokens.now.ids))) out.new result)
+        × (result ≤ from + 704) }
 {
     if cols_walk::any_is(&tokens.states, 3) {
         return put_returns(out, from, users, tokens, gone);
@@ -265,7 +267,8 @@ pub fn farewell(
     list: &[u16; 64],
     count: usize,
 ) -> usize
-    ensures { Puts out.old 0 (records_of (farewell_of (domain_in d.now) gone live reason (take count list.now))) out.new result }
+    ensures told { Puts out.old 0 (records_of (farewell_of (domain_in d.now) gone live reason (take count list.now))) out.new result }
+    ensures few { result ≤ 17200 }
 {
     let a = put_first(out, live, reason, list, count);
     let b = put_any_ends(out, a, &d.users, &d.channels, &d.members, gone, live);

@@ -2,18 +2,23 @@
 use mathlib.Core.Path.{sym, ◌∙◌}
 use native.Mathlib.Omega.{arith}
 use borrow.Author.Rules.{rules}
-use Rattle.domain.specs.Tables.{users_of}
-use Rattle.serve_leave.proofs.LeaverLaws.{adds_nobody, adds_again, adds_new}
+use Rattle.domain_tables.specs.Held.{users_in}
+use Rattle.serve_leave.proofs.LeaverLaws.{attached_there, adds_nobody, adds_again, adds_new}
 use Rattle.serve_leave.proofs.add_leaver.Goals as goal
 
-pub returns-then-not-has : goal.returns-then-not-has
-returns-then-not-has c = let a = c.args in
-    adds_new (users_of a.user_ids.now a.user_links.now) a.p a.u a.list.now a.t c.attached-j.result c.attached-j.ensures.0 (omega arith) (sym c.has.ensures ∙ c.if-not-has.true) (search rules) (search rules) _ c.with.ensures
+pub returns-in_default : goal.returns-in_default
+returns-in_default c = let a = c.args in adds_nobody (users_in a.users.now) a.p a.u a.list.now a.t (sym c.in_default.ensures)
 
-pub returns-else-not-has : goal.returns-else-not-has
-returns-else-not-has c = let a = c.args in
-    adds_again (users_of a.user_ids.now a.user_links.now) a.p a.u a.list.now a.t c.attached-j.result c.attached-j.ensures.0 (omega arith) (sym c.has.ensures ∙ c.if-not-has.false)
+pub bounds-users-seat : goal.bounds-users-seat
+bounds-users-seat c = let a = c.args in omega (arith, (attached_there (users_in a.users.now) a.p a.u c.in-Some.seat (sym c.in-Some.ensures)).1)
 
-pub returns-else-j-all : goal.returns-else-j-all
-returns-else-j-all c = let a = c.args in
-    adds_nobody (users_of a.user_ids.now a.user_links.now) a.p a.u a.list.now a.t c.attached-j.result c.attached-j.ensures.0 (search rules) (omega arith)
+pub prove-unreachable-requires : goal.prove-unreachable-requires
+prove-unreachable-requires c = let a = c.args in c.if-prove.true (attached_there (users_in a.users.now) a.p a.u c.in-Some.seat (sym c.in-Some.ensures)).0
+
+pub returns-then-has : goal.returns-then-has
+returns-then-has c = let a = c.args in
+    adds_again (users_in a.users.now) a.p a.u a.list.now a.t (search rules) c.in-Some.seat (sym c.in-Some.ensures) (sym c.has.ensures ∙ c.if-has.true)
+
+pub returns : goal.returns
+returns c = let a = c.args in
+    adds_new (users_in a.users.now) a.p a.u a.list.now a.t (search rules) c.in-Some.seat (sym c.in-Some.ensures) (sym c.has.ensures ∙ c.if-has.false) c.requires (search rules) _ c.with.ensures

@@ -1,25 +1,24 @@
--- Nobody listed is on the connection, or those who are leave.
-use Prim.Native.Nat.{◌%◌}
+-- Nobody listed is on the connection, or those who are leave; or all of the connection.
 use mathlib.Core.Path.{◌∙◌}
+use Prim.Native.Nat.{◌%◌}
 use lib.ListN.{take}
-use Rattle.domain.specs.Tables.{domain_of}
+use Rattle.cols_spec.specs.Sets.{once}
+use Rattle.cols_spec.specs.Places.{in_order}
+use Rattle.domain_tables.specs.Held.{domain_in}
 use Rattle.serve_leave.proofs.LeaverLaws.{leaves_none, leaves_some}
-use Rattle.serve_leave.proofs.SettleLaws.{none_listed, some_listed, depart_nobody, depart_some}
+use Rattle.serve_leave.proofs.SettleLaws.{closing, detach_nobody, detach_some}
 use Rattle.serve_leave.proofs.depart.Goals as goal
+use Rattle.serve_leave.proofs.depart.Goals.{in-Closes, in-Detaches+else-who-eq0}
 
-pub returns-then-who-closes : goal.returns-then-who-closes
-returns-then-who-closes c =
-    let a = c.args in
-    let both = none_listed c.who_leaves-who.result.count a.closes c.if-who-closes.true in λ l.
-    depart_nobody (domain_of l a.links.now a.user_ids.now a.user_links.now a.channel_ids.now a.channel_kinds.now a.managers.now a.admitted.now a.joined.now a.token_ids.now a.token_states.now a.token_values.now)
-    a.p (a.reason % 8) (take a.count a.list.now) a.out.now a.closes both.1 (leaves_none c.who_leaves-who.ensures both.0)
+pub returns-then-who-eq0 : goal.returns-then-who-eq0
+returns-then-who-eq0 c = let a = c.args in
+    rw c.in-Detaches.is (detach_nobody (domain_in a.d.now) a.p (take a.count a.list.now) a.out.now (c.in-Detaches.reason % 8) (leaves_none c.listed_on-who.ensures c.if-who-eq0.true))
 
 pub returns : goal.returns
-returns c =
-    let a = c.args in
-    let w = c.who_leaves-who.ensures in
-    let t = c.if-who-closes.false in λ l.
-    c.leave.ensures l a.p _ w
-    ∙ depart_some (domain_of l a.links.now a.user_ids.now a.user_links.now a.channel_ids.now a.channel_kinds.now a.managers.now a.admitted.now a.joined.now a.token_ids.now a.token_states.now a.token_values.now)
-    a.p (a.reason % 8) (take a.count a.list.now) a.out.now a.closes _ _ c.remaining-live.ensures c.told-why.ensures
-    (λ e. leaves_some w (some_listed _ a.closes t e))
+returns c = let a = c.args in
+    let d = domain_in a.d.now in
+    elim c.match-departure.branch [
+      | in-Closes w ↦ rw w.in-Closes.is (closing d a.p (take a.count a.list.now) a.out.now c.leave.ensures w.list-is w.live-is w.all_on-who.ensures w.without.ensures w.from.ensures)
+      | in-Detaches+else-who-eq0 w ↦ rw w.in-Detaches.is (detach_some d a.p (take a.count a.list.now) a.out.now (w.in-Detaches.reason % 8) c.leave.ensures w.list-is w.live-is w.listed_on-who.ensures
+          (leaves_some w.listed_on-who.ensures w.if-who-eq0.false))
+    ]

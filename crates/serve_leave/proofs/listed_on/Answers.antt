@@ -7,13 +7,17 @@ use Rattle.serve_leave.proofs.Picking.{pick_start, pick_turn}
 use Rattle.serve_leave.proofs.listed_on.Goals as goal
 
 pub loop-i-init : goal.loop-i-init
-loop-i-init c = (search rules, omega (arith, least_le _ _ _ c.min-m.ensures), search rules, pick_start _ _ _)
+loop-i-init c = record { size = search rules; picked = pick_start _ _ _ }
+
+pub add_leaver-t-requires : goal.add_leaver-t-requires
+add_leaver-t-requires c = omega (arith, c.loop-i.invariant.picked.before, least_le _ _ _ c.min-i-end.ensures)
 
 pub loop-i-preserved : goal.loop-i-preserved
-loop-i-preserved c = (search rules, search rules, search rules, pick_turn c.loop-i.invariant.3 (omega arith) refl c.add_leaver-t.ensures)
+loop-i-preserved c = let b = c.loop-i.invariant in
+    record { size = b.size; picked = pick_turn b.picked (omega (arith, least_le _ _ _ c.min-i-end.ensures)) refl c.add_leaver-t.ensures }
 
 pub returns : goal.returns
 returns c = let a = c.args in
     let b = c.loop-i in
-    let e : b.i ≡ c.min-m.result = omega arith in
-    rw (← take_least a.list.now a.count _ b.i (search rules) (e ∙ c.min-m.ensures)) b.invariant.3.leaves
+    let e : b.i ≡ c.min-i-end.result = omega arith in
+    rw (← take_least a.list.now a.count _ b.i (search rules) (e ∙ c.min-i-end.ensures)) b.invariant.picked.leaves

@@ -19,7 +19,8 @@ ids-init c = let a = c.args in
 pub returns-then-k-eq0 : goal.returns-then-k-eq0
 returns-then-k-eq0 c = let a = c.args in
     let f = return_at (users_in a.users.now) (tokens_in a.tokens.now) a.gone in
-    onward_end c.ids.invariant.laid (coming_end f _ _ c.next_where-k.result c.next_where-k.ensures _ c.if-k-eq0.true)
+    let p = onward_end c.ids.invariant.laid (coming_end f _ _ c.next_where-k.result c.next_where-k.ensures _ c.if-k-eq0.true) in
+    (p, omega (arith, p.next, returns_length (users_in a.users.now) (tokens_in a.tokens.now) a.gone c.ids.invariant.few))
 
 pub put_returned-at-requires : goal.put_returned-at-requires
 put_returned-at-requires c = let a = c.args in
@@ -37,4 +38,5 @@ ids-preserved c = let a = c.args in
 pub returns : goal.returns
 returns c = let a = c.args in
     let f = return_at (users_in a.users.now) (tokens_in a.tokens.now) a.gone in
-    onward_end c.ids.invariant.laid (coming_none f _ _ _ (omega arith))
+    let p = onward_end c.ids.invariant.laid (coming_none f _ _ _ (omega arith)) in
+    (p, omega (arith, p.next, returns_length (users_in a.users.now) (tokens_in a.tokens.now) a.gone c.ids.invariant.few))

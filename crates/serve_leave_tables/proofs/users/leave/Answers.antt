@@ -31,5 +31,5 @@ loop-j-preserved c =
     ] in
     (λ h. (x.here h).1, users_past (sweeps_turn 0 (stays_on _) b.invariant.1 (search rules) turn) x)
 
-pub returns : goal.returns
-returns c = users_swept _ _ _ _ _ _ c.loop-j.invariant.1 (search rules)
+pub returns-clause-left : goal.returns-clause-left
+returns-clause-left c = users_swept _ _ _ _ _ _ c.loop-j.invariant.1 (search rules)
