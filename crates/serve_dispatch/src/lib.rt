@@ -11,6 +11,7 @@ ghost use Rattle.serve_read.specs.Requests.{brief_request, listed_request};
 use domain::answer::Answer;
 use domain::numbers::Reply;
 use domain_tables::Domain;
+use serve_leave::Departure;
 use serve_private::Say;
 
 // The requests of a few ids that are not about tokens: AUrq, CJrq, CCrq, CDrq.
@@ -64,27 +65,13 @@ pub fn listed_request(
             serve_private::revise(d, p, s, &mut listed[..n], out)
         }
         _ => {
-            let closes = number != 12;
-            let reason = (first % 8) as u8;
-            serve_leave::depart(
-                &mut d.links,
-                &mut d.users.ids,
-                &mut d.users.links,
-                &mut d.channels.ids,
-                &mut d.channels.kinds,
-                &mut d.channels.managers,
-                &mut d.members.admitted,
-                &mut d.members.joined,
-                &mut d.tokens.ids,
-                &mut d.tokens.states,
-                &mut d.tokens.values,
-                closes,
-                p,
-                reason,
-                listed,
-                count,
-                out,
-            )
+            let is_detach = number == 12;
+            let departure = if is_detach {
+                Departure::Detaches((first % 8) as u8)
+            } else {
+                Departure::Closes
+            };
+            serve_leave::depart(d, p, departure, listed, count, out)
         }
     }
 }

@@ -1,12 +1,9 @@
 -- Those who leave, settled: refused with 9 and nothing touched, or done; and who leaves by a DUrq, or with a connection that closes.
-use Rattle.std.specs.Prelude.{if◌then◌else◌}
 use mathlib.Core.Path.{◌≡◌, refl, sym, ◌∙◌}
-use mathlib.Core.Bool.{Bool, true, false, not, ◌&&◌, true≢false}
+use mathlib.Core.Bool.{true, false}
 use mathlib.Core.List.{List}
 use Prim.Native.Nat.{ℕ, ◌≤◌, ◌<◌}
 use native.Mathlib.Nat.{zero-add}
-use borrow.Author.Tests.{eqb-true, not-true}
-use lib.Dec.{eqb}
 use lib.ListN.{length, take}
 use Rattle.cols_spec.specs.Sets.{null, member, without, once, connections}
 use Rattle.cols_spec.specs.Places.{Place, At, Nowhere, find, found, in_order}
@@ -14,7 +11,6 @@ use Rattle.cols_spec.proofs.Bools.{and_parts}
 use Rattle.cols_spec.proofs.Members.{member_keep}
 use Rattle.out_records.specs.Records.{Sent, records}
 use Rattle.out_records.specs.Out.{Puts}
-use Rattle.domain.specs.declared.Limits.{Limits}
 use Rattle.domain.specs.Tables.{Users, Channels, Tokens, Domain, attached, remove_users, sweep_channels, sweep_tokens}
 use Rattle.domain.specs.Tokens.{lose}
 use Rattle.domain.specs.Effects.{Settled, settled, delivers, settle}

@@ -49,7 +49,7 @@ fn kind_of(channels: &Channels, members: &Members, c: u16) -> Kind
     ensures { result ≡ kind_at (channels_in channels.now members.now) c }
 {
     match channels.find(c) {
-        Some(j) => domain_state::channel::kind_of(channels.at(members, j)),
+        Some(j) => Kind::from(channels.at(members, j)),
         None => Kind::Static,
     }
 }

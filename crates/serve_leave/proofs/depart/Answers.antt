@@ -1,9 +1,6 @@
 -- Nobody listed is on the connection, or those who are leave; or all of the connection.
-use mathlib.Core.Path.{◌∙◌}
 use Prim.Native.Nat.{◌%◌}
 use lib.ListN.{take}
-use Rattle.cols_spec.specs.Sets.{once}
-use Rattle.cols_spec.specs.Places.{in_order}
 use Rattle.domain_tables.specs.Held.{domain_in}
 use Rattle.serve_leave.proofs.LeaverLaws.{leaves_none, leaves_some}
 use Rattle.serve_leave.proofs.SettleLaws.{closing, detach_nobody, detach_some}

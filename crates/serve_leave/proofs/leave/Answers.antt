@@ -1,10 +1,7 @@
 -- There is no room, or the records are put and the tables are stored.
 use Prim.Native.Nat.{◌≤◌}
-use mathlib.Core.Path.{sym}
 use native.Mathlib.Omega.{arith}
-use borrow.Author.Rules.{rules}
 use lib.ListN.{length}
-use lib.Seq.{length-take-le}
 use Rattle.domain_tables.specs.Held.{domain_in}
 use Rattle.serve_leave.proofs.SettleLaws.{leave_full, leave_done}
 use Rattle.serve_leave.proofs.leave.Goals as goal

@@ -5,7 +5,7 @@ use Rattle.serve_leave_records.proofs.kind_of.Goals as goal
 
 pub returns-in-Some : goal.returns-in-Some
 unfolding load
-returns-in-Some c = rw (c.kind_of.ensures, c.at.ensures, ← c.in-Some.ensures) refl
+returns-in-Some c = rw (c.from.ensures, c.at.ensures, ← c.in-Some.ensures) refl
 
 pub returns-in-None : goal.returns-in-None
 unfolding load kind

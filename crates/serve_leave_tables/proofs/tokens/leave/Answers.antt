@@ -26,7 +26,7 @@ pub loop-j-preserved : goal.loop-j-preserved
 loop-j-preserved c =
     let b = c.loop-j in
     let h = c.lose-h.ensures ∙ ap (lose c.args.gone) c.state_at.ensures in
-    let turn = token_turns c.args.gone b.j (tokens_in b.tokens) (λ e. omega (arith, b.invariant.in_use)) (tokens_in c.put_at.new.self) c.lose-h.result h (rw c.new_token.ensures at c.put_at.ensures) in
+    let turn = token_turns c.args.gone b.j (tokens_in b.tokens) (λ e. omega (arith, b.invariant.in_use)) (tokens_in c.put_at.new.self) c.lose-h.result h (rw c.from.ensures at c.put_at.ensures) in
     record {
       in_use = λ h. (busy_is c.put_at.new.self.ids _ _ c.used_from-j-in-loop-j.ensures).in_use (omega arith);
       swept = (sweeps_step no_token (loses _) b.invariant.swept (search rules) turn _ c.used_from-j-in-loop-j.ensures).1;
