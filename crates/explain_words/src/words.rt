@@ -1,7 +1,9 @@
 // The words for the numbers of T.125 and of document 01: one table, a row of 24 octets a word, the rest of a row dots.
 ghost use Rattle.std.specs.Prelude.{◌≡◌, [], ◌∷◌, ◌≤◌, take, drop};
-ghost use Rattle.trace_io.specs.Lines.{Says};
+ghost use Rattle.trace_io.specs.Waiting.{SaysTo};
 ghost use Rattle.explain_words.specs.Words.{word, padded, rows, placed, Fronts};
+
+use trace_io::lines::Lines;
 
 // Results, 16 from here on.
 pub const RESULT: usize = 0;
@@ -175,37 +177,33 @@ fn start_of(n: usize) -> usize
 fn size_of(row: &[u8]) -> usize
     ensures { Fronts row.now result }
 {
-    let mut i = 0;
-    while i < row.len() {
+    for i in 0..row.len() {
         if row[i] == b'.' {
             return i;
         }
-        i += 1;
     }
-    i
+    row.len()
 }
 
 // Says a word.
-pub fn say_word(out: &mut [u8], filled: usize, n: usize) -> usize
-    ensures { Says out.old filled (word n ∷ []) out.new result }
+pub fn say_word(lines: &mut Lines, n: usize)
+    ensures { SaysTo lines.old (word n ∷ []) lines.new }
 {
     let table = ROWS;
     let from = start_of(n);
     let to = from + WIDTH;
     let row = &table[from..to];
     let k = size_of(row);
-    trace_io::lines::say(out, filled, &row[..k])
+    lines.say(&row[..k]);
 }
 
 // Says the word for a value among so many from a group's first on; for any other, a question mark.
-pub fn say_named(out: &mut [u8], filled: usize, group: usize, count: u32, value: u32) -> usize
-    ensures { Says out.old filled (word (placed group count value) ∷ []) out.new result }
+pub fn say_named(lines: &mut Lines, group: usize, count: u32, value: u32)
+    ensures { SaysTo lines.old (word (placed group count value) ∷ []) lines.new }
 {
-    if count <= value {
-        return say_word(out, filled, NONE);
+    if count <= value || NONE <= group {
+        say_word(lines, NONE);
+        return;
     }
-    if NONE <= group {
-        return say_word(out, filled, NONE);
-    }
-    say_word(out, filled, group + value as usize)
+    say_word(lines, group + value as usize);
 }
