@@ -18,7 +18,7 @@ use Rattle.trace_io.specs.Lines.{decimal, each}
 use Rattle.trace_io.specs.Hexadecimal.{octet_texts}
 use Rattle.explain_words.specs.Letters.{ascii}
 use Rattle.explain_words.specs.Words.{word, placed, part_words, message_words}
-use Rattle.explain_message.specs.Messages.{value_text, ids_texts, list_texts, octets_texts, items_texts, tail_texts, unread_texts, least, read_texts, message_texts}
+use Rattle.explain_message.specs.Messages.{value_text, ids_texts, list_texts, octets_texts, items_texts, tail_texts, unread_texts, read_texts, message_texts}
 
 -- the value of a field, by its kind
 pub value_at : (k kind v : ℕ) → kind ≡ k → value_text k v ∷ [] ≡ value_text kind v ∷ []
@@ -68,13 +68,6 @@ module _ (os : List ℕ) (o : ℕ) (n : length os ≡ 0 → ⊥) (e : o ≡ get_
   pub unread_number : 43 ≤ o / 4 → ascii "number " ∷ decimal (o / 4) ∷ [] ≡ unread_texts os
   unfolding unread_texts
   unread_number h = rw (ne_eqb (length os) 0 n, ← e, le-ltb (o / 4) 43 h) refl
-
--- no more than so many
-pub least_less : (n most : ℕ) → n < most → (n ≡ least n most) × (n ≤ most)
-least_less n most h = (sym (rw (lt-ltb n most h) refl), omega arith)
-
-pub least_most : (n most : ℕ) → most ≤ n → (most ≡ least n most) × (most ≤ most)
-least_most n most h = (sym (rw (le-ltb n most h) refl), omega arith)
 
 -- a part up to the end
 pub all_behind : (os : List ℕ) (k : ℕ) → take (length os - k) (drop k os) ≡ drop k os

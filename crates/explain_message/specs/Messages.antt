@@ -1,5 +1,5 @@
 -- A message in words, as a list of texts.
-use Rattle.std.specs.Prelude.{ℕ, ◌-◌, ◌/◌, cond, true, List, [], ◌∷◌, ◌++◌, eqb, ltb, length, take, drop, get_or}
+use Rattle.std.specs.Prelude.{ℕ, ◌-◌, ◌/◌, cond, true, List, [], ◌∷◌, ◌++◌, eqb, ltb, length, take, drop, get_or, min}
 use Rattle.codec_table.specs.Codec.{Outcome, ok, refuse}
 use Rattle.codec_table.specs.Columns.{tail_at, kind_at}
 use Rattle.codec_read.specs.declared.Decoded.{Decoded}
@@ -37,13 +37,10 @@ list_texts ids = cond (eqb (length ids) 0) (ascii " none" ∷ []) (each ids_text
 unfoldable pub octets_texts : List ℕ → List (List ℕ)
 octets_texts os = cond (eqb (length os) 0) (ascii " none" ∷ []) (each (octet_texts true) 0 os)
 
-abbrev pub least : ℕ → ℕ → ℕ
-least n most = cond (ltb n most) n most
-
 -- a message's items: its string, which lies in the octets read, or the first of the ids
 unfoldable pub items_texts : Items → List ℕ → List ℕ → List (List ℕ)
-items_texts (Octets start count) ids os = octets_texts (drop (least start (length os)) os)
-items_texts (Ids count) ids os = list_texts (take (least count (length ids)) ids)
+items_texts (Octets start count) ids os = octets_texts (drop (min start (length os)) os)
+items_texts (Ids count) ids os = list_texts (take (min count (length ids)) ids)
 
 -- what follows the fields, by its kind: nothing; octets or a list by their name
 unfoldable pub tail_texts : ℕ → Items → List ℕ → List ℕ → List (List ℕ)
@@ -61,7 +58,7 @@ unread_texts os =
 unfoldable pub read_texts : List ℕ → Decoded → List (List ℕ)
 read_texts os d =
     word (placed message_words 43 d.head.number) ∷ []
-    ++ each (field_texts d.head.number) 0 (take (least d.head.have (length d.head.values)) d.head.values)
+    ++ each (field_texts d.head.number) 0 (take (min d.head.have (length d.head.values)) d.head.values)
     ++ tail_texts (tail_at d.head.number) d.head.items d.ids os
 
 unfoldable pub message_texts : List ℕ → Outcome Decoded → List (List ℕ)

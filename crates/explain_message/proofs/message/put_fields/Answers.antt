@@ -1,17 +1,10 @@
--- `explain_message::message::put_fields` meets its contract: each is said. Assumes nothing.
 use Rattle.explain_message.specs.Messages.{ids_texts}
-use Rattle.trace_io.proofs.Saying.{telling_start, telling_step, telling_end}
+use Rattle.trace_io.proofs.Saying.{on_step, on_end}
 use Rattle.explain_message.proofs.message.put_fields.Goals as goal
-
-pub loop-i-init : goal.loop-i-init
-loop-i-init c = telling_start
 
 pub loop-i-preserved : goal.loop-i-preserved
 unfolding ids_texts
-loop-i-preserved c = telling_step c.loop-i.invariant c.loop-i-test.true c.put_field-at.auto.out c.put_field-at.ensures
-
-pub shape_of-out : goal.shape_of-out
-shape_of-out c = c.loop-i.invariant.size
+loop-i-preserved c = on_step c.loop-i.invariant c.loop-i-test.true c.put_field.ensures
 
 pub returns : goal.returns
-returns c = telling_end c.loop-i.invariant c.loop-i-test.false
+returns c = on_end c.loop-i.invariant c.loop-i-test.false

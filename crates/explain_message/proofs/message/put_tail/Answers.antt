@@ -11,5 +11,5 @@ pub returns : goal.returns
 unfolding ascii
 returns c =
     let a = c.args in
-    says_as (says_then c.say-a.ensures (says_then c.say_named-b.ensures c.put_items.ensures))
+    says_as (says_then c.say.ensures (says_then c.say_named.ensures c.put_items.ensures))
     (tail_some a.kind a.items a.ids.now a.octets.now c.if-kind-eq0.false)

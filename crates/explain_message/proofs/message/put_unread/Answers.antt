@@ -13,4 +13,4 @@ returns-then-number-lt43 c = says_as c.say_named.ensures (unread_named c.args.oc
 
 pub returns : goal.returns
 unfolding ascii
-returns c = says_as (says_then c.say-a.ensures c.say_number.ensures) (unread_number c.args.octets.now c.wide-number.result c.if-octets-eq0.false c.wide-number.ensures.0 c.if-number-lt43.false)
+returns c = says_as (says_then c.say-2.ensures c.say_number.ensures) (unread_number c.args.octets.now c.wide-number.result c.if-octets-eq0.false c.wide-number.ensures.0 c.if-number-lt43.false)
