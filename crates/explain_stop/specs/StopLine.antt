@@ -2,13 +2,15 @@
 use Rattle.std.specs.Prelude.{ℕ, ◌-◌, ◌/◌, ◌%◌, ◌≡◌, cond, List, [], ◌∷◌, ◌++◌, eqb, length, get_or}
 use Rattle.codec_table.specs.Columns.{tail_at}
 use Rattle.codec_read.specs.Reading.{decode_of}
-use Rattle.codec_stop.specs.Stops.{refusal_of, told}
+use Rattle.codec_stop.specs.Stops.{refusal_of}
 use Rattle.codec_stop.specs.declared.Stop.{Stop}
 use Rattle.codec_stop.specs.declared.Part.{Part}
 use Rattle.codec_stop.specs.declared.Part.TheVariants.{Number, Field, Items, End}
 use Rattle.codec_stop.specs.declared.Why.{Why}
 use Rattle.codec_stop.specs.declared.Why.TheVariants.{Read, Size, Unknown, Uncovered, Missing, Skipped, Range, LongForm, Fragmented, Many, Empty, Wide, Padded, Left}
-use Rattle.trace_io.specs.Lines.{decimal, Says}
+use Rattle.trace_io.specs.Lines.{decimal}
+use Rattle.trace_io.specs.Waiting.{SaysTo}
+use Rattle.trace_io.specs.declared.lines.Lines.{Lines}
 use Rattle.explain_words.specs.Letters.{ascii}
 use Rattle.explain_words.specs.Words.{word, placed, part_words, why_words}
 use Rattle.explain_words.specs.FieldNames.{field_word}
@@ -56,7 +58,7 @@ stop_texts os s =
     ++ ascii " in " ∷ part_text (number_in os) s.part ∷ ascii ": " ∷ word (placed why_words 11 (why_place s.why)) ∷ ascii "\n" ∷ []
 
 -- texts that may tell of a stop are said, for a stop with the refusal that decoding these octets gives
-pub record Tells (os : List ℕ) (texts : Stop → List (List ℕ)) (o : List ℕ) (f : ℕ) (x : List ℕ) (r : ℕ) : Type 0 where
+pub record Tells (os : List ℕ) (texts : Stop → List (List ℕ)) (old new : Lines) : Type 0 where
   pub stop : Stop
   pub refusal : told stop.refusal ≡ refusal_of (decode_of os)
-  pub says : Says o f (texts stop) x r
+  pub says : SaysTo old (texts stop) new

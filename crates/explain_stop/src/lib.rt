@@ -2,28 +2,25 @@
 #![tactic(auto)]
 
 ghost use Rattle.std.specs.Prelude.{◌≡◌, [], ◌∷◌};
-ghost use Rattle.trace_io.specs.Lines.{Says};
+ghost use Rattle.trace_io.specs.Waiting.{SaysTo};
 ghost use Rattle.explain_stop.specs.StopLine.{items_place, part_text, why_place, number_in, place_texts, stop_texts, Tells};
 
 use codec_stop::{Part, Why};
 use explain_words::words::{say_named, say_word};
-use trace_io::lines::{say, say_number};
+use trace_io::lines::Lines;
 
 // The part of a message: its number, a field or what follows the fields by name, or the end.
-fn put_part(out: &mut [u8], filled: usize, number: u32, part: Part) -> usize
-    ensures { Says out.old filled (part_text number part ∷ []) out.new result }
+fn put_part(lines: &mut Lines, number: u32, part: Part)
+    ensures { SaysTo lines.old (part_text number part ∷ []) lines.new }
 {
     match part {
-        Part::Number => say_named(out, filled, explain_words::words::PART, 5, 3),
-        Part::Field(i) => say_word(out, filled, explain_words::fields::field_word(number, i)),
-        Part::Items => say_named(
-            out,
-            filled,
-            explain_words::words::PART,
+        Part::Number => say_named(lines, explain_words::words::PART, 5, 3),
+        Part::Field(i) => say_word(lines, explain_words::fields::field_word(number, i)),
+        Part::Items => say_named(lines, explain_words::words::PART,
             3,
             before(codec_table::tail_of(number)),
         ),
-        Part::End => say_named(out, filled, explain_words::words::PART, 5, 4),
+        Part::End => say_named(lines, explain_words::words::PART, 5, 4),
     }
 }
 
@@ -42,9 +39,7 @@ fn place_of(why: Why) -> u32
     ensures { result ≡ why_place why }
 {
     match why {
-        Why::Read => 11,
-        Why::Size => 11,
-        Why::Uncovered => 11,
+        Why::Read | Why::Size | Why::Uncovered => 11,
         Why::Unknown => 0,
         Why::Missing => 1,
         Why::Skipped => 2,
@@ -70,26 +65,26 @@ fn number_of(octets: &[u8]) -> u32
 }
 
 // An octet and a bit, counted from 0.
-fn put_place(out: &mut [u8], filled: usize, bit: usize) -> usize
-    ensures { Says out.old filled (place_texts bit) out.new result }
+fn put_place(lines: &mut Lines, bit: usize)
+    ensures { SaysTo lines.old (place_texts bit) lines.new }
 {
-    let a = say(out, filled, b"  stopped at octet ");
-    let b = say_number(out, a, (bit / 8) as u64);
-    let c = say(out, b, b" bit ");
-    say_number(out, c, (bit % 8) as u64)
+    lines.say(b"  stopped at octet ");
+    lines.say_number((bit / 8) as u64);
+    lines.say(b" bit ");
+    lines.say_number((bit % 8) as u64);
 }
 
 // The line that says where reading stopped: the octet and the bit, the part of the message, and why.
-pub fn put_stop(out: &mut [u8], filled: usize, octets: &[u8]) -> usize
-    ensures { Tells octets.now (stop_texts octets.now) out.old filled out.new result }
+pub fn put_stop(lines: &mut Lines, octets: &[u8])
+    ensures { Tells octets.now (stop_texts octets.now) lines.old lines.new }
 {
     let s = codec_stop::where_stopped(octets);
     let part = s.part;
     let why = s.why;
-    let a = put_place(out, filled, s.bit);
-    let b = say(out, a, b" in ");
-    let c = put_part(out, b, number_of(octets), part);
-    let d = say(out, c, b": ");
-    let e = say_named(out, d, explain_words::words::WHY, 11, place_of(why));
-    say(out, e, b"\n")
+    put_place(lines, s.bit);
+    lines.say(b" in ");
+    put_part(lines, number_of(octets), part);
+    lines.say(b": ");
+    say_named(lines, explain_words::words::WHY, 11, place_of(why));
+    lines.say(b"\n");
 }

@@ -11,10 +11,10 @@ pub returns : goal.returns
 unfolding ascii stop_texts
 returns c =
     let s = c.where_stopped-s.result in
-    let part = says_as c.put_part-c.ensures (ap (λ n. part_text n s.part ∷ []) c.number_of.ensures) in
-    let why = says_as c.say_named-e.ensures (ap (λ n. word (placed why_words 11 n) ∷ []) c.place_of.ensures) in
+    let part = says_as c.put_part.ensures (ap (λ n. part_text n s.part ∷ []) c.number_of.ensures) in
+    let why = says_as c.say_named.ensures (ap (λ n. word (placed why_words 11 n) ∷ []) c.place_of.ensures) in
     record {
       stop = s;
       refusal = c.where_stopped-s.ensures;
-      says = says_then c.put_place-a.ensures (says_then c.say-b.ensures (says_then part (says_then c.say-d.ensures (says_then why c.say.ensures))));
+      says = says_then c.put_place.ensures (says_then c.say.ensures (says_then part (says_then c.say-2.ensures (says_then why c.say-3.ensures))));
     }
