@@ -1,7 +1,7 @@
 // Lines of numbers, collected in a buffer that the caller lends and written when it is full.
 ghost use Rattle.std.specs.Prelude.{◌≡◌, [], ◌∷◌, ◌++◌, ◌+◌, ◌≤◌, length, leb};
 ghost use Rattle.std.proofs.lemmas.List.Edits.{sets};
-ghost use Rattle.trace_io.specs.Lines.{decimal, field, line_of, collected, Says, Adds};
+ghost use Rattle.trace_io.specs.Lines.{decimal, field, line_of, Adds};
 ghost use Rattle.trace_io.specs.Waiting.{SaysTo};
 
 // The descriptors that are written to: standard output and standard error.
@@ -44,13 +44,6 @@ fn put_field(text: &mut [u8], at: usize, n: u64, mark: u8) -> usize
     end + 1
 }
 
-// Writes the first octets of out.
-pub fn flush(out: &[u8], filled: usize) {
-    if filled <= out.len() {
-        io::write_all(OUTPUT, &out[..filled]);
-    }
-}
-
 // Whether so many octets have room behind those that are filled.
 fn fits(filled: usize, size: usize, room: usize) -> bool
     ensures { result ≡ leb (filled + size) room }
@@ -61,67 +54,21 @@ fn fits(filled: usize, size: usize, room: usize) -> bool
     filled <= room - size
 }
 
-// Puts text behind the octets that are filled; where there is no room, writes those first. Answers how many are filled then.
-pub fn collect(out: &mut [u8], filled: usize, text: &[u8]) -> usize
-    ensures { (out.new, result) ≡ collected out.old filled text.now }
-{
-    let room = out.len();
-    let size = text.len();
-    if fits(filled, size, room) {
-        lay(out, filled, text);
-        return filled + size;
-    }
-    flush(out, filled);
-    if size <= room {
-        lay(out, 0, text);
-        return size;
-    }
-    io::write_all(OUTPUT, text);
-    0
-}
-
-// Collects a text; what many calls put into the buffer is promised as the list of the texts. A flush is not promised.
-pub fn say(out: &mut [u8], filled: usize, text: &[u8]) -> usize
-    ensures { Says out.old filled (text.now ∷ []) out.new result }
-{
-    collect(out, filled, text)
-}
-
-// Says a number in decimal.
-pub fn say_number(out: &mut [u8], filled: usize, n: u64) -> usize
-    ensures { Says out.old filled (decimal n ∷ []) out.new result }
-{
-    let mut digits = [0u8; 20];
-    let k = io::decimal(n, &mut digits);
-    say(out, filled, &digits[..k])
-}
-
-// Puts the line of a report behind the octets that are filled, as collect does.
-pub fn add_line(out: &mut [u8], filled: usize, report: Report) -> usize
-    ensures { (out.new, result) ≡ collected out.old filled (line_of report) }
-{
-    let mut text = [0u8; 105];
-    let a = put_field(&mut text, 0, report.reply, b' ');
-    let b = put_field(&mut text, a, report.sent, b' ');
-    let c = put_field(&mut text, b, report.users, b' ');
-    let d = put_field(&mut text, c, report.channels, b' ');
-    let e = put_field(&mut text, d, report.tokens, b'\n');
-    collect(out, filled, &text[..e])
-}
-
 // Texts on their way to a descriptor: those that wait are the first octets of the room, and are written where there is no room for more.
 #[derive(Drop)]
 pub struct Lines {
     room: [u8; 65536],
     filled: usize,
+    to: i32,
 }
 
 impl Lines {
-    // Nothing waits.
-    pub fn new() -> Lines {
+    // Nothing waits; what is said goes to this descriptor.
+    pub fn to(descriptor: i32) -> Lines {
         Lines {
             room: [0; 65536],
             filled: 0,
+            to: descriptor,
         }
     }
 
@@ -129,26 +76,51 @@ impl Lines {
     pub fn say(&mut self, text: &[u8])
         ensures { SaysTo self.old (text.now ∷ []) self.new }
     {
-        self.filled = say(&mut self.room, self.filled, text);
+        let size = text.len();
+        if fits(self.filled, size, 65536) {
+            lay(&mut self.room, self.filled, text);
+            self.filled += size;
+            return;
+        }
+        self.flush();
+        if size <= 65536 {
+            lay(&mut self.room, 0, text);
+            self.filled = size;
+            return;
+        }
+        io::write_all(self.to, text);
     }
 
     // Says a number in decimal.
     pub fn say_number(&mut self, n: u64)
         ensures { SaysTo self.old (decimal n ∷ []) self.new }
     {
-        self.filled = say_number(&mut self.room, self.filled, n);
+        let mut digits = [0u8; 20];
+        let k = io::decimal(n, &mut digits);
+        self.say(&digits[..k]);
     }
 
     // Says the line of a report.
     pub fn say_report(&mut self, report: Report)
         ensures { SaysTo self.old (line_of report ∷ []) self.new }
     {
-        self.filled = add_line(&mut self.room, self.filled, report);
+        let mut text = [0u8; 105];
+        let a = put_field(&mut text, 0, report.reply, b' ');
+        let b = put_field(&mut text, a, report.sent, b' ');
+        let c = put_field(&mut text, b, report.users, b' ');
+        let d = put_field(&mut text, c, report.channels, b' ');
+        let e = put_field(&mut text, d, report.tokens, b'\n');
+        self.say(&text[..e]);
     }
 
     // Writes what waits.
-    pub fn flush(&mut self) {
-        flush(&self.room, self.filled);
+    pub fn flush(&mut self)
+        ensures room { self.new.room ≡ self.old.room }
+        ensures none { self.new.filled ≡ 0 }
+    {
+        if self.filled <= 65536 {
+            io::write_all(self.to, &self.room[..self.filled]);
+        }
         self.filled = 0;
     }
 }

@@ -3,7 +3,7 @@ use mathlib.Core.List.{[], ◌∷◌}
 use mathlib.Core.Path.{ap, ◌∙◌}
 use Rattle.trace_io.proofs.Saying.{says_as}
 use Rattle.trace_io.proofs.Texts.{few, digits_are}
-use Rattle.trace_io.proofs.lines.say_number.Goals as goal
+use Rattle.trace_io.proofs.lines.Lines.say_number.Goals as goal
 
 pub returns : goal.returns
 returns c =
