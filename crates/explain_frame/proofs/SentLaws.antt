@@ -9,7 +9,8 @@ use lib.Dec.{leb}
 use lib.ListN.{length, take, drop, length-drop}
 use lib.Seq.{length-take-le, take_all, drop-drop}
 use Rattle.trace_frames.specs.Frames.{size_of}
-use Rattle.trace_io.specs.Lines.{Says}
+use Rattle.trace_io.specs.Waiting.{SaysTo}
+use Rattle.trace_io.specs.declared.lines.Lines.{Lines}
 use Rattle.trace_io.proofs.Saying.{Onward, onward_start, onward_step, onward_end}
 use Rattle.explain_frame.specs.Sent.{record_size, record_texts, first_texts, records_texts, sent_texts}
 
@@ -62,21 +63,19 @@ first_end zero s e = refl
 first_end (suc n) s e = rw (eq-eqb (record_size s) 0 e) refl
 
 -- a loop that tells records: those from `from` on are not told yet, and the next has so many octets
-pub record Sending (s o : List ℕ) (w : ℕ) (x : List ℕ) (r from size : ℕ) : Type 0 where
-  pub room : length x ≡ length o
+pub record Sending (s : List ℕ) (old new : Lines) (from size : ℕ) : Type 0 where
   pub next : size ≡ record_size (drop from s)
   pub inside : from + size ≤ length s
   pub least : 0 < size → 4 ≤ size
   pub turns : ℕ
   pub enough : length s ≤ from + turns
-  pub onward : Onward o w (records_texts s) x r (first_texts turns (drop from s))
+  pub onward : Onward old.room old.filled (records_texts s) new.room new.filled (first_texts turns (drop from s))
 
-pub sending_start : {s o : List ℕ} {w : ℕ} (size : ℕ) → size ≡ record_size s → Sending s o w o w 0 size
+pub sending_start : {s : List ℕ} {old : Lines} (size : ℕ) → size ≡ record_size s → Sending s old old 0 size
 unfolding records_texts
 sending_start {s} size e =
     let k = size_kept s in
     record {
-      room = refl;
       next = e;
       inside = omega (arith, k.0);
       least = rw e k.1;
@@ -85,17 +84,16 @@ sending_start {s} size e =
       onward = onward_start;
     }
 
-pub sending_more : {s o x y : List ℕ} {w r q from size : ℕ} (n : ℕ) → Sending s o w x r from size → 0 < size → length y ≡ length x
-    → n ≡ record_size (take (length s - (from + size)) (drop (from + size) s)) → Says x r (record_texts (take (from + size - from) (drop from s))) y q
-    → Sending s o w y q (from + size) n
-sending_more {s} {from = from} {size = size} n t h l e told =
+pub sending_more : {s : List ℕ} {old mid new : Lines} {from size : ℕ} (n : ℕ) → Sending s old mid from size → 0 < size
+    → n ≡ record_size (take (length s - (from + size)) (drop (from + size) s)) → SaysTo mid (record_texts (take (from + size - from) (drop from s))) new
+    → Sending s old new (from + size) n
+sending_more {s} {from = from} {size = size} n t h e told =
     let here : n ≡ record_size (drop (from + size) s) = e ∙ ap record_size (take_all (length s - (from + size)) (drop (from + size) s) (omega (arith, length-drop (from + size) s))) in
     let k = size_kept (drop (from + size) s) in
     let m : from + size - from ≡ size = omega arith in
     let left : suc (t.turns - 1) ≡ t.turns = omega (arith, t.enough, t.inside) in
     let rest : drop (record_size (drop from s)) (drop from s) ≡ drop (from + size) s = ap (λ j. drop j (drop from s)) (sym t.next) ∙ drop-drop size from s in
     record {
-      room = l ∙ t.room;
       next = here;
       inside = omega (arith, here, k.0, length-drop (from + size) s, t.inside);
       least = rw here k.1;
@@ -111,11 +109,11 @@ sending_more {s} {from = from} {size = size} n t h l e told =
     }
 
 -- the next record has its connection
-pub sending_whole : {s o x : List ℕ} {w r from size : ℕ} → Sending s o w x r from size → 0 < size → 4 ≤ length (take (from + size - from) (drop from s))
+pub sending_whole : {s : List ℕ} {old new : Lines} {from size : ℕ} → Sending s old new from size → 0 < size → 4 ≤ length (take (from + size - from) (drop from s))
 sending_whole {s} {from = from} {size = size} t h =
     omega (arith, length-take-le (from + size - from) (drop from s) (omega (arith, t.inside, length-drop from s)), t.least h)
 
-pub sending_end : {s o x : List ℕ} {w r from size : ℕ} → Sending s o w x r from size → size ≤ 0 → Says o w (records_texts s) x r
+pub sending_end : {s : List ℕ} {old new : Lines} {from size : ℕ} → Sending s old new from size → size ≤ 0 → SaysTo old (records_texts s) new
 sending_end {s} {from = from} t h = onward_end (first_texts t.turns (drop from s)) t.onward (first_end t.turns (drop from s) (omega (arith, t.next)))
 
 -- the first octets of the room, where it has so many

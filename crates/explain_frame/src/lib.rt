@@ -4,7 +4,8 @@
 ghost use Rattle.std.specs.Prelude.{◌≡◌, [], ◌∷◌, ◌≤◌, length, take};
 ghost use Rattle.trace_frames.specs.Frames.{front, size_of};
 ghost use Rattle.domain_tables.specs.Held.{tokens_in};
-ghost use Rattle.trace_io.specs.Lines.{decimal, Says};
+ghost use Rattle.trace_io.specs.Lines.{decimal};
+ghost use Rattle.trace_io.specs.Waiting.{SaysTo};
 ghost use Rattle.explain_stop.specs.StopLine.{Tells};
 ghost use Rattle.explain_frame.specs.Sent.{sent_texts};
 ghost use Rattle.explain_frame.specs.Frames.{event_texts, octets_line, refused_texts, wrong_texts, counts_texts, reply_texts, bad_texts, good_texts, message_in, front_texts, frame_texts};
@@ -14,105 +15,101 @@ mod sent;
 use domain_tables::{Tokens, Users};
 use explain_words::words::say_named;
 use trace_frames::{Frame, Kind};
-use trace_io::lines::{Report, say, say_number};
+use trace_io::lines::{Lines, Report};
 
 // A text and the number behind it.
-fn put_count(out: &mut [u8], filled: usize, text: &[u8], n: u64) -> usize
-    ensures { Says out.old filled (text.now ∷ decimal n ∷ []) out.new result }
+fn put_count(lines: &mut Lines, text: &[u8], n: u64)
+    ensures { SaysTo lines.old (text.now ∷ decimal n ∷ []) lines.new }
 {
-    let a = say(out, filled, text);
-    say_number(out, a, n)
+    lines.say(text);
+    lines.say_number(n);
 }
 
 // The event of a good frame: a message in words.
-fn put_event(out: &mut [u8], filled: usize, kind: Kind, connection: u8, message: &[u8]) -> usize
-    ensures { Says out.old filled (event_texts kind connection message.now) out.new result }
+fn put_event(lines: &mut Lines, kind: Kind, connection: u8, message: &[u8])
+    ensures { SaysTo lines.old (event_texts kind connection message.now) lines.new }
 {
     match kind {
-        Kind::Open => put_count(out, filled, b": open, connection ", connection as u64),
-        Kind::Loss => put_count(out, filled, b": lost, connection ", connection as u64),
+        Kind::Open => put_count(lines, b": open, connection ", connection as u64),
+        Kind::Loss => put_count(lines, b": lost, connection ", connection as u64),
         Kind::Message => {
-            let a = put_count(out, filled, b": message, connection ", connection as u64);
-            let b = say(out, a, b": ");
-            explain_message::message::put_message(out, b, message)
+            put_count(lines, b": message, connection ", connection as u64);
+            lines.say(b": ");
+            explain_message::message::put_message(lines, message);
         }
     }
 }
 
 // The line of octets in hexadecimal.
-fn put_octets_line(out: &mut [u8], filled: usize, octets: &[u8]) -> usize
-    ensures { Says out.old filled (octets_line octets.now) out.new result }
+fn put_octets_line(lines: &mut Lines, octets: &[u8])
+    ensures { SaysTo lines.old (octets_line octets.now) lines.new }
 {
-    let a = say(out, filled, b"  octets");
-    let b = explain_message::message::put_octets(out, a, octets);
-    say(out, b, b"\n")
+    lines.say(b"  octets");
+    explain_message::message::put_octets(lines, octets);
+    lines.say(b"\n");
 }
 
 // A message that was not read, or that a connection that is not open sent and that cannot be read: its octets, and for 5 and 8 where reading stopped.
-fn put_refused(out: &mut [u8], filled: usize, reply: u64, message: &[u8]) -> usize
-    ensures { Tells message.now (refused_texts reply message.now) out.old filled out.new result }
+fn put_refused(lines: &mut Lines, reply: u64, message: &[u8])
+    ensures { Tells message.now (refused_texts reply message.now) lines.old lines.new }
 {
     if reply < 4 {
-        return filled;
+        return;
     }
     if 8 < reply {
-        return filled;
+        return;
     }
-    let a = put_octets_line(out, filled, message);
-    if reply == 5 {
-        return explain_stop::put_stop(out, a, message);
+    put_octets_line(lines, message);
+    if reply == 5 || reply == 8 {
+        explain_stop::put_stop(lines, message);
     }
-    if reply == 8 {
-        return explain_stop::put_stop(out, a, message);
-    }
-    a
 }
 
 // The octets of a message on a connection that is not open, where they cannot be read.
-fn put_unread(out: &mut [u8], filled: usize, reply: u64, kind: Kind, message: &[u8]) -> usize
-    ensures { Tells message.now (wrong_texts reply kind message.now) out.old filled out.new result }
+fn put_unread(lines: &mut Lines, reply: u64, kind: Kind, message: &[u8])
+    ensures { Tells message.now (wrong_texts reply kind message.now) lines.old lines.new }
 {
     if reply != 2 {
-        return put_refused(out, filled, reply, message);
+        put_refused(lines, reply, message);
+        return;
     }
     match kind {
-        Kind::Open => filled,
-        Kind::Loss => filled,
+        Kind::Open => {}
+        Kind::Loss => {}
         Kind::Message => {
             let s = codec_stop::where_stopped(message);
             match s.refusal {
-                None => filled,
-                Some(_) => put_octets_line(out, filled, message),
+                None => {}
+                Some(_) => put_octets_line(lines, message),
             }
         }
     }
 }
 
 // Users, channels and tokens in use.
-fn put_counts(out: &mut [u8], filled: usize, report: Report) -> usize
-    ensures { Says out.old filled (counts_texts report) out.new result }
+fn put_counts(lines: &mut Lines, report: Report)
+    ensures { SaysTo lines.old (counts_texts report) lines.new }
 {
-    let a = put_count(out, filled, b", users ", report.users);
-    let b = put_count(out, a, b", channels ", report.channels);
-    put_count(out, b, b", tokens ", report.tokens)
+    put_count(lines, b", users ", report.users);
+    put_count(lines, b", channels ", report.channels);
+    put_count(lines, b", tokens ", report.tokens);
 }
 
 // The line of the reply: its number and meaning, octets sent, users, channels and tokens in use.
-fn put_reply(out: &mut [u8], filled: usize, report: Report) -> usize
-    ensures { Says out.old filled (reply_texts report) out.new result }
+fn put_reply(lines: &mut Lines, report: Report)
+    ensures { SaysTo lines.old (reply_texts report) lines.new }
 {
-    let a = put_count(out, filled, b"  reply ", report.reply);
-    let b = say(out, a, b" (");
-    let c = say_named(
-        out,
-        b,
+    put_count(lines, b"  reply ", report.reply);
+    lines.say(b" (");
+    say_named(
+        lines,
         explain_words::words::REPLY,
         12,
         (report.reply % 65536) as u32,
     );
-    let d = put_count(out, c, b"), sent ", report.sent);
-    let e = put_counts(out, d, report);
-    say(out, e, b"\n")
+    put_count(lines, b"), sent ", report.sent);
+    put_counts(lines, report);
+    lines.say(b"\n");
 }
 
 // The octets of a bad frame: as many as its length says, or all that are left.
@@ -130,38 +127,31 @@ fn bad_size(s: &[u8]) -> usize
 }
 
 // A bad frame: its octets.
-fn put_bad(out: &mut [u8], filled: usize, s: &[u8]) -> usize
-    ensures { Says out.old filled (bad_texts s.now) out.new result }
+fn put_bad(lines: &mut Lines, s: &[u8])
+    ensures { SaysTo lines.old (bad_texts s.now) lines.new }
 {
-    let a = say(out, filled, b": bad frame\n");
+    lines.say(b": bad frame\n");
     let size = bad_size(s);
-    put_octets_line(out, a, &s[..size])
+    put_octets_line(lines, &s[..size]);
 }
 
 // A good frame: its event, and what was wrong with its message.
-fn put_good(
-    out: &mut [u8],
-    filled: usize,
-    kind: Kind,
-    connection: u8,
-    message: &[u8],
-    reply: u64,
-) -> usize
-    ensures { Tells message.now (good_texts reply kind connection message.now) out.old filled out.new result }
+fn put_good(lines: &mut Lines, kind: Kind, connection: u8, message: &[u8], reply: u64)
+    ensures { Tells message.now (good_texts reply kind connection message.now) lines.old lines.new }
 {
-    let a = put_event(out, filled, kind, connection, message);
-    let b = say(out, a, b"\n");
-    put_unread(out, b, reply, kind, message)
+    put_event(lines, kind, connection, message);
+    lines.say(b"\n");
+    put_unread(lines, reply, kind, message);
 }
 
 // What stands at the front of s, in words.
-fn put_front(out: &mut [u8], filled: usize, s: &[u8], reply: u64) -> usize
-    ensures { Tells (message_in s.now (front s.now)) (front_texts reply s.now (front s.now)) out.old filled out.new result }
+fn put_front(lines: &mut Lines, s: &[u8], reply: u64)
+    ensures { Tells (message_in s.now (front s.now)) (front_texts reply s.now (front s.now)) lines.old lines.new }
 {
     let found = trace_frames::next_frame(s);
     match found {
-        Frame::End => say(out, filled, b": end\n"),
-        Frame::Bad => put_bad(out, filled, s),
+        Frame::End => lines.say(b": end\n"),
+        Frame::Bad => put_bad(lines, s),
         Frame::Good {
             kind,
             connection,
@@ -169,31 +159,30 @@ fn put_front(out: &mut [u8], filled: usize, s: &[u8], reply: u64) -> usize
             size,
         } => {
             if s.len() < size {
-                return filled;
+                return;
             }
             if size < start {
-                return filled;
+                return;
             }
-            put_good(out, filled, kind, connection, &s[start..size], reply)
+            put_good(lines, kind, connection, &s[start..size], reply);
         }
     }
 }
 
 // The records sent: the first so many octets of the room.
-fn put_sent(out: &mut [u8], filled: usize, room: &[u8], sent: u64) -> usize
-    ensures { Says out.old filled (sent_texts sent room.now) out.new result }
+fn put_sent(lines: &mut Lines, room: &[u8], sent: u64)
+    ensures { SaysTo lines.old (sent_texts sent room.now) lines.new }
 {
     let k = (sent % 65536) as usize;
     if room.len() < k {
-        return filled;
+        return;
     }
-    sent::put_records(out, filled, &room[..k])
+    sent::put_records(lines, &room[..k]);
 }
 
 // A frame, the number of which is given, in words: what stands at the front of s, the reply, the records, the tokens that changed since.
 pub fn put_frame(
-    out: &mut [u8],
-    filled: usize,
+    lines: &mut Lines,
     number: u64,
     s: &[u8],
     report: Report,
@@ -201,14 +190,14 @@ pub fn put_frame(
     users: &Users,
     tokens: &Tokens,
     old: &mut Tokens,
-) -> usize
+)
     ensures { Tells (message_in s.now (front s.now)) (frame_texts number s.now report room.now users.now.ids
-        (tokens_in old.old) (tokens_in tokens.now)) out.old filled out.new result
+        (tokens_in old.old) (tokens_in tokens.now)) lines.old lines.new
         × (old.new ≡ tokens.now) }
 {
-    let a = put_count(out, filled, b"frame ", number);
-    let b = put_front(out, a, s, report.reply);
-    let c = put_reply(out, b, report);
-    let d = put_sent(out, c, room, report.sent);
-    explain_tokens::put_changes(out, d, users, tokens, old)
+    put_count(lines, b"frame ", number);
+    put_front(lines, s, report.reply);
+    put_reply(lines, report);
+    put_sent(lines, room, report.sent);
+    explain_tokens::put_changes(lines, users, tokens, old);
 }

@@ -1,9 +1,9 @@
 // The records sent for a frame, a line each.
 ghost use Rattle.std.specs.Prelude.{◌≡◌, ◌≤◌, length};
-ghost use Rattle.trace_io.specs.Lines.{Says};
+ghost use Rattle.trace_io.specs.Waiting.{SaysTo};
 ghost use Rattle.explain_frame.specs.Sent.{record_size, record_texts, records_texts};
 
-use trace_io::lines::{say, say_number};
+use trace_io::lines::Lines;
 
 // How many octets the record at the front has; 0 where there is none.
 fn size_at(records: &[u8]) -> usize
@@ -23,29 +23,27 @@ fn size_at(records: &[u8]) -> usize
 }
 
 // A record: to which connection, and the message in words.
-fn put_record(out: &mut [u8], filled: usize, one: &[u8]) -> usize
+fn put_record(lines: &mut Lines, one: &[u8])
     requires { 4 ≤ length one.now }
-    ensures { Says out.old filled (record_texts one.now) out.new result }
+    ensures { SaysTo lines.old (record_texts one.now) lines.new }
 {
-    let a = say(out, filled, b"  to connection ");
-    let b = say_number(out, a, codec_octets::wide(one[3]) as u64);
-    let c = say(out, b, b": ");
-    let d = explain_message::message::put_message(out, c, &one[4..]);
-    say(out, d, b"\n")
+    lines.say(b"  to connection ");
+    lines.say_number(codec_octets::wide(one[3]) as u64);
+    lines.say(b": ");
+    explain_message::message::put_message(lines, &one[4..]);
+    lines.say(b"\n");
 }
 
 // Records one behind the other.
-pub fn put_records(out: &mut [u8], filled: usize, records: &[u8]) -> usize
-    ensures { Says out.old filled (records_texts records.now) out.new result }
+pub fn put_records(lines: &mut Lines, records: &[u8])
+    ensures { SaysTo lines.old (records_texts records.now) lines.new }
 {
-    let mut at = filled;
     let mut from = 0;
     let mut size = size_at(records);
     while 0 < size {
         let end = from + size;
-        at = put_record(out, at, &records[from..end]);
+        put_record(lines, &records[from..end]);
         from = end;
         size = size_at(&records[from..]);
     }
-    at
 }

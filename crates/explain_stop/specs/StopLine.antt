@@ -2,7 +2,7 @@
 use Rattle.std.specs.Prelude.{ℕ, ◌-◌, ◌/◌, ◌%◌, ◌≡◌, cond, List, [], ◌∷◌, ◌++◌, eqb, length, get_or}
 use Rattle.codec_table.specs.Columns.{tail_at}
 use Rattle.codec_read.specs.Reading.{decode_of}
-use Rattle.codec_stop.specs.Stops.{refusal_of}
+use Rattle.codec_stop.specs.Stops.{refusal_of, told}
 use Rattle.codec_stop.specs.declared.Stop.{Stop}
 use Rattle.codec_stop.specs.declared.Part.{Part}
 use Rattle.codec_stop.specs.declared.Part.TheVariants.{Number, Field, Items, End}

@@ -16,7 +16,9 @@ fn put_part(lines: &mut Lines, number: u32, part: Part)
     match part {
         Part::Number => say_named(lines, explain_words::words::PART, 5, 3),
         Part::Field(i) => say_word(lines, explain_words::fields::field_word(number, i)),
-        Part::Items => say_named(lines, explain_words::words::PART,
+        Part::Items => say_named(
+            lines,
+            explain_words::words::PART,
             3,
             before(codec_table::tail_of(number)),
         ),

@@ -11,19 +11,19 @@ use lib.ListN.{length, take, get_or, set, length-set}
 use lib.Seq.{take-suc, take-suc-set, take_all}
 use Rattle.cols_spec.specs.Places.{next, rising, in_order}
 use Rattle.cols_spec.proofs.Turns.{rising_turn, rising_end}
-use Rattle.trace_io.specs.Lines.{Says}
+use Rattle.trace_io.specs.Waiting.{SaysTo}
+use Rattle.trace_io.specs.declared.lines.Lines.{Lines}
 use Rattle.trace_io.proofs.Saying.{Onward, onward_start, onward_step, onward_end}
 use Rattle.domain.specs.declared.token.Holding.{Holding}
 use Rattle.explain_tokens.specs.Holders.{over, picked_from, holding_texts}
 
 -- a loop that tells the ids of a column in ascending order: it turned i times, and ids up to `low` are told
-pub record Rising (f : ℕ → List (List ℕ)) (ids o : List ℕ) (w : ℕ) (x : List ℕ) (r low i : ℕ) : Type 0 where
-  pub size : length x ≡ length o
-  pub onward : Onward o w (over f (in_order ids)) x r (over f (rising (length ids - i) low ids))
+pub record Rising (f : ℕ → List (List ℕ)) (ids : List ℕ) (old new : Lines) (low i : ℕ) : Type 0 where
+  pub onward : Onward old.room old.filled (over f (in_order ids)) new.room new.filled (over f (rising (length ids - i) low ids))
 
-pub rising_start : {f : ℕ → List (List ℕ)} {ids o : List ℕ} {w : ℕ} → Rising f ids o w o w 0 0
+pub rising_start : {f : ℕ → List (List ℕ)} {ids : List ℕ} {old : Lines} → Rising f ids old old 0 0
 unfolding in_order
-rising_start {ids = ids} = let all : length ids - 0 ≡ length ids = omega arith in record { size = refl; onward = rw all onward_start }
+rising_start {ids = ids} = let all : length ids - 0 ≡ length ids = omega arith in record { onward = rw all onward_start }
 
 told : (f : ℕ → List (List ℕ)) (ids : List ℕ) (m k : ℕ) → over f (k ∷ rising m k ids) ≡ f k ++ over f (rising (suc m - 1) k ids)
 unfolding over
@@ -34,22 +34,22 @@ turned : (f : ℕ → List (List ℕ)) (ids : List ℕ) (low left k : ℕ) → k
 turned f ids low zero k e n h = absurd (omega arith)
 turned f ids low (suc m) k e n h = ap (λ l. over f l) (rising_turn m low ids k (sym e) (omega arith)) ∙ told f ids m k
 
-pub rising_more : {f : ℕ → List (List ℕ)} {ids o x y : List ℕ} {w r q low i : ℕ} (k : ℕ) → Rising f ids o w x r low i → k ≡ next low 0 ids → (k ≡ 0 → ⊥) → i < length ids
-    → length y ≡ length x → Says x r (f k) y q → Rising f ids o w y q k (i + 1)
-rising_more {f = f} {ids = ids} {low = low} {i = i} k t e n h l s =
+pub rising_more : {f : ℕ → List (List ℕ)} {ids : List ℕ} {old mid new : Lines} {low i : ℕ} (k : ℕ) → Rising f ids old mid low i → k ≡ next low 0 ids → (k ≡ 0 → ⊥) → i < length ids
+    → SaysTo mid (f k) new → Rising f ids old new k (i + 1)
+rising_more {f = f} {ids = ids} {low = low} {i = i} k t e n h s =
     let left = length ids - i in
     let rest : length ids - (i + 1) ≡ left - 1 = omega arith in
-    record { size = l ∙ t.size; onward = rw rest (onward_step (f k) (over f (rising left low ids)) t.onward (turned f ids low left k e n (omega arith)) s) }
+    record { onward = rw rest (onward_step (f k) (over f (rising left low ids)) t.onward (turned f ids low left k e n (omega arith)) s) }
 
 ended : (f : ℕ → List (List ℕ)) (ids : List ℕ) (low left : ℕ) → next low 0 ids ≡ 0 → over f (rising left low ids) ≡ []
 unfolding over rising
 ended f ids low zero e = refl
 ended f ids low (suc m) e = ap (λ l. over f l) (rising_end m low ids e)
 
-pub rising_done : {f : ℕ → List (List ℕ)} {ids o x : List ℕ} {w r low i : ℕ} (k : ℕ) → Rising f ids o w x r low i → k ≡ next low 0 ids → k ≡ 0 → Says o w (over f (in_order ids)) x r
+pub rising_done : {f : ℕ → List (List ℕ)} {ids : List ℕ} {old new : Lines} {low i : ℕ} (k : ℕ) → Rising f ids old new low i → k ≡ next low 0 ids → k ≡ 0 → SaysTo old (over f (in_order ids)) new
 rising_done {f = f} {ids = ids} {low = low} {i = i} k t e z = onward_end (over f (rising (length ids - i) low ids)) t.onward (ended f ids low (length ids - i) (sym e ∙ z))
 
-pub rising_over : {f : ℕ → List (List ℕ)} {ids o x : List ℕ} {w r low i : ℕ} → Rising f ids o w x r low i → length ids ≤ i → Says o w (over f (in_order ids)) x r
+pub rising_over : {f : ℕ → List (List ℕ)} {ids : List ℕ} {old new : Lines} {low i : ℕ} → Rising f ids old new low i → length ids ≤ i → SaysTo old (over f (in_order ids)) new
 unfolding over rising
 rising_over {f = f} {ids = ids} {low = low} {i = i} t h =
     let none : length ids - i ≡ 0 = omega arith in

@@ -5,29 +5,27 @@ ghost use Rattle.std.specs.Prelude.{◌≡◌, ◌∷◌, ◌<◌, get_or};
 ghost use Rattle.cols_spec.specs.Sets.{has};
 ghost use Rattle.cols_spec.specs.Places.{in_order};
 ghost use Rattle.domain_tables.specs.Held.{tokens_in};
-ghost use Rattle.trace_io.specs.Lines.{Says};
+ghost use Rattle.trace_io.specs.Waiting.{SaysTo};
 ghost use Rattle.explain_message.specs.Messages.{id_texts};
 ghost use Rattle.explain_tokens.specs.Holders.{over, picked_from, holding_texts, token_texts, state_texts, changed_at, changed_ids, change_texts, table_texts};
 
 use domain::token::Holding;
 use domain_tables::{Tokens, Users};
-use trace_io::lines::{say, say_number};
+use trace_io::lines::Lines;
 
 // The ids of a column, ascending, each behind a space.
-fn put_rising(out: &mut [u8], filled: usize, ids: &[u16]) -> usize
-    ensures { Says out.old filled (over id_texts (in_order ids.now)) out.new result }
+fn put_rising(lines: &mut Lines, ids: &[u16])
+    ensures { SaysTo lines.old (over id_texts (in_order ids.now)) lines.new }
 {
-    let mut at = filled;
     let mut low: u16 = 0;
     for _ in 0..ids.len() {
         let k = cols_walk::next(ids, low);
         if k == 0 {
-            return at;
+            return;
         }
-        at = explain_message::message::put_id(out, at, k);
+        explain_message::message::put_id(lines, k);
         low = k;
     }
-    at
 }
 
 // The ids of the users at the places of a set.
@@ -42,58 +40,56 @@ fn members(users: &Users, us: u64) -> [u16; 64]
 }
 
 // A user's id behind a text.
-fn put_user(out: &mut [u8], filled: usize, text: &[u8], users: &Users, i: u8) -> usize
-    ensures { Says out.old filled (text.now ∷ id_texts (get_or users.now.ids i 0)) out.new result }
+fn put_user(lines: &mut Lines, text: &[u8], users: &Users, i: u8)
+    ensures { SaysTo lines.old (text.now ∷ id_texts (get_or users.now.ids i 0)) lines.new }
 {
-    let a = say(out, filled, text);
-    explain_message::message::put_id(out, a, users.name(i))
+    lines.say(text);
+    explain_message::message::put_id(lines, users.name(i));
 }
 
 // The state of a token.
-fn put_holding(out: &mut [u8], filled: usize, users: &Users, h: Holding) -> usize
-    ensures { Says out.old filled (holding_texts users.now.ids h) out.new result }
+fn put_holding(lines: &mut Lines, users: &Users, h: Holding)
+    ensures { SaysTo lines.old (holding_texts users.now.ids h) lines.new }
 {
     match h {
-        Holding::Free => say(out, filled, b"free"),
-        Holding::Grabbed(g) => put_user(out, filled, b"grabbed by", users, g),
+        Holding::Free => lines.say(b"free"),
+        Holding::Grabbed(g) => put_user(lines, b"grabbed by", users, g),
         Holding::Inhibited(us) => {
-            let a = say(out, filled, b"inhibited by");
-            put_rising(out, a, &members(users, us))
+            lines.say(b"inhibited by");
+            put_rising(lines, &members(users, us));
         }
         Holding::Giving(g, r) => {
-            let a = put_user(out, filled, b"giving from", users, g);
-            put_user(out, a, b" to", users, r)
+            put_user(lines, b"giving from", users, g);
+            put_user(lines, b" to", users, r);
         }
-        Holding::Given(r) => put_user(out, filled, b"given to", users, r),
+        Holding::Given(r) => put_user(lines, b"given to", users, r),
     }
 }
 
 // A token's line.
-fn put_token(out: &mut [u8], filled: usize, users: &Users, k: u16, h: Holding) -> usize
-    ensures { Says out.old filled (token_texts users.now.ids k h) out.new result }
+fn put_token(lines: &mut Lines, users: &Users, k: u16, h: Holding)
+    ensures { SaysTo lines.old (token_texts users.now.ids k h) lines.new }
 {
-    let a = say(out, filled, b"  token ");
-    let b = say_number(out, a, u64::from(k));
-    let c = say(out, b, b": ");
-    let d = put_holding(out, c, users, h);
-    say(out, d, b"\n")
+    lines.say(b"  token ");
+    lines.say_number(u64::from(k));
+    lines.say(b": ");
+    put_holding(lines, users, h);
+    lines.say(b"\n");
 }
 
 // A line for each token of a list, ascending.
-fn put_tokens(out: &mut [u8], filled: usize, users: &Users, tokens: &Tokens, list: &[u16]) -> usize
-    ensures { Says out.old filled (over (state_texts users.now.ids (tokens_in tokens.now)) (in_order list.now)) out.new result }
+fn put_tokens(lines: &mut Lines, users: &Users, tokens: &Tokens, list: &[u16])
+    ensures { SaysTo lines.old (over (state_texts users.now.ids (tokens_in tokens.now)) (in_order list.now)) lines.new }
 {
-    let mut at = filled;
     let mut low: u16 = 0;
     for _ in 0..list.len() {
         let k = cols_walk::next(list, low);
         if k == 0 {
-            return at;
+            return;
         }
-        at = put_token(out, at, users, k, tokens.state(k));
+        put_token(lines, users, k, tokens.state(k));
         low = k;
     }
-    at
 }
 
 // The numbers at a place are others in two tables.
@@ -120,29 +116,23 @@ fn changes(old: &Tokens, tokens: &Tokens) -> [u16; 128]
 }
 
 // A line for each token that changed since, ascending; the table before becomes the one after.
-pub fn put_changes(
-    out: &mut [u8],
-    filled: usize,
-    users: &Users,
-    tokens: &Tokens,
-    old: &mut Tokens,
-) -> usize
-    ensures { Says out.old filled (change_texts users.now.ids (tokens_in old.old) (tokens_in tokens.now)) out.new result
+pub fn put_changes(lines: &mut Lines, users: &Users, tokens: &Tokens, old: &mut Tokens)
+    ensures { SaysTo lines.old (change_texts users.now.ids (tokens_in old.old) (tokens_in tokens.now)) lines.new
         × (old.new ≡ tokens.now) }
 {
     let list = changes(old, tokens);
     old.ids.copy_from_slice(&tokens.ids);
     old.states.copy_from_slice(&tokens.states);
     old.values.copy_from_slice(&tokens.values);
-    put_tokens(out, filled, users, tokens, &list)
+    put_tokens(lines, users, tokens, &list);
 }
 
 // The table: how many tokens are in use, and a line for each.
-pub fn put_table(out: &mut [u8], filled: usize, users: &Users, tokens: &Tokens) -> usize
-    ensures { Says out.old filled (table_texts users.now.ids (tokens_in tokens.now)) out.new result }
+pub fn put_table(lines: &mut Lines, users: &Users, tokens: &Tokens)
+    ensures { SaysTo lines.old (table_texts users.now.ids (tokens_in tokens.now)) lines.new }
 {
-    let a = say(out, filled, b"tokens in use: ");
-    let b = say_number(out, a, cols_find::used(&tokens.ids) as u64);
-    let c = say(out, b, b"\n");
-    put_tokens(out, c, users, tokens, &tokens.ids)
+    lines.say(b"tokens in use: ");
+    lines.say_number(cols_find::used(&tokens.ids) as u64);
+    lines.say(b"\n");
+    put_tokens(lines, users, tokens, &tokens.ids);
 }

@@ -1,70 +1,45 @@
-// What is told on standard error: lines, collected in a buffer that the caller lends.
+// What is told on standard error, line by line.
 use std::io::{Cursor, Error, Write};
 use trace_frames::fault::Fault;
-use trace_io::lines::{ERRORS, say, say_number};
-
-// No line is longer.
-const LINE: usize = 128;
-
-// Writes the lines that are collected.
-pub fn write(text: &[u8], filled: usize) {
-    if filled <= text.len() {
-        io::write_all(ERRORS, &text[0..filled]);
-    }
-}
-
-// Where the next line goes: where there is no room for it, those that are collected are written first.
-fn room(text: &[u8], filled: usize) -> usize {
-    if LINE <= text.len() {
-        if filled <= text.len() - LINE {
-            return filled;
-        }
-    }
-    write(text, filled);
-    0
-}
+use trace_io::lines::{ERRORS, Lines};
 
 // Why no frame begins.
-fn words(text: &mut [u8], filled: usize, fault: Fault) -> usize {
+fn words(fault: Fault) -> &'static [u8] {
     match fault {
-        Fault::Length => say(text, filled, b"the length is below 3"),
-        Fault::Version => say(text, filled, b"the version is not 1"),
-        Fault::Kind => say(text, filled, b"the kind is above 2"),
-        Fault::Octets => say(text, filled, b"an open or a loss with octets"),
-        Fault::CutOff => say(text, filled, b"cut off"),
-        Fault::Nothing => filled,
+        Fault::Length => b"the length is below 3",
+        Fault::Version => b"the version is not 1",
+        Fault::Kind => b"the kind is above 2",
+        Fault::Octets => b"an open or a loss with octets",
+        Fault::CutOff => b"cut off",
+        Fault::Nothing => b"",
     }
 }
 
 // The line of a span that is cut out.
-pub fn tell_cut(text: &mut [u8], filled: usize, start: u64, size: u64, fault: Fault) -> usize {
-    let a = room(text, filled);
-    let b = say_number(text, a, start);
-    let c = say(text, b, b" ");
-    let d = say_number(text, c, size);
-    let e = say(text, d, b" ");
-    let f = words(text, e, fault);
-    say(text, f, b"\n")
-}
-
-// What is cut, behind what is kept.
-fn say_cuts(text: &mut [u8], filled: usize, cut: u64, spans: u64) -> usize {
-    if spans == 0 {
-        return say(text, filled, b", nothing cut\n");
+pub fn tell_cut(lines: &mut Lines, start: u64, size: u64, fault: Option<Fault>) {
+    lines.say_number(start);
+    lines.say(b" ");
+    lines.say_number(size);
+    lines.say(b" ");
+    if let Some(why) = fault {
+        lines.say(words(why));
     }
-    let a = say(text, filled, b", octets cut: ");
-    let b = say_number(text, a, cut);
-    let c = say(text, b, b", spans cut: ");
-    let d = say_number(text, c, spans);
-    say(text, d, b"\n")
+    lines.say(b"\n");
 }
 
-// The last line.
-pub fn tell_all(text: &mut [u8], filled: usize, kept: u64, cut: u64, spans: u64) -> usize {
-    let a = room(text, filled);
-    let b = say(text, a, b"octets kept: ");
-    let c = say_number(text, b, kept);
-    say_cuts(text, c, cut, spans)
+// The last line: what is kept, and what is cut.
+pub fn tell_all(lines: &mut Lines, kept: u64, cut: u64, spans: u64) {
+    lines.say(b"octets kept: ");
+    lines.say_number(kept);
+    if spans == 0 {
+        lines.say(b", nothing cut\n");
+        return;
+    }
+    lines.say(b", octets cut: ");
+    lines.say_number(cut);
+    lines.say(b", spans cut: ");
+    lines.say_number(spans);
+    lines.say(b"\n");
 }
 
 // What failed, and why, in one line.

@@ -1,10 +1,11 @@
 // A trace that is read and written as it comes, salvaged window by window.
 ghost use Rattle.std.specs.Prelude.{◌≡◌, length};
 
-use salvage_window::{Stand, Turn, cut_size, lead, plus, turn_over};
+use salvage_window::{Stand, Turn, cut_size, lead, turn_over};
 use std::io::{Error, ErrorKind, Read, Write};
 use trace_frames::fault::Fault;
 use trace_io::input::Span;
+use trace_io::lines::{ERRORS, Lines};
 
 // So many octets decide what is done at a place: two frames.
 const ENOUGH: usize = 131074;
@@ -15,20 +16,18 @@ const ENOUGH: usize = 131074;
 struct Run {
     stand: Stand,
     span: Span,
-    fault: Fault,
+    fault: Option<Fault>,
     kept: u64,
     cut: u64,
     spans: u64,
     held: usize,
-    filled: usize,
     more: bool,
-    failure: Failure,
+    failure: Option<Failure>,
 }
 
 // Which call of the system failed, and why.
 #[derive(Clone, Copy)]
 enum Failure {
-    None,
     Read(Error),
     Write(Error),
 }
@@ -48,33 +47,22 @@ fn begin() -> Run {
             from: 0,
         },
         span: trace_io::input::start(),
-        fault: Fault::Nothing,
+        fault: None,
         kept: 0,
         cut: 0,
         spans: 0,
         held: 0,
-        filled: 0,
         more: true,
-        failure: Failure::None,
+        failure: None,
     }
 }
 
 // The run is over: a call of the system failed.
 fn fail(run: Run, failure: Failure) -> Run {
-    let stand = run.stand;
-    let span = run.span;
-    let fault = run.fault;
     Run {
-        stand,
-        span,
-        fault,
-        kept: run.kept,
-        cut: run.cut,
-        spans: run.spans,
-        held: run.held,
-        filled: run.filled,
         more: false,
-        failure,
+        failure: Some(failure),
+        ..run
     }
 }
 
@@ -94,15 +82,12 @@ fn fetch<R: Read>(input: &mut R, buf: &mut [u8], run: Run) -> Run {
     let n = trace_io::input::to_start(buf, run.span);
     match input.read(&mut buf[n..]) {
         Ok(k) => {
-            let end = n + k;
             let span = Span {
                 from: 0,
-                to: end,
+                to: n + k,
                 ended: k == 0,
             };
-            let mut r = run;
-            r.span = span;
-            r
+            Run { span, ..run }
         }
         Err(why) => fail(run, Failure::Read(why)),
     }
@@ -122,18 +107,12 @@ fn window(buf: &[u8], span: Span) -> &[u8] {
 
 // The octets of a turn are passed.
 fn pass(run: Run, t: Turn) -> Run {
-    let have = run.span;
-    let from = plus(have.from as u64, t.octets as u64);
-    let span = Span {
-        from: from as usize,
-        to: have.to,
-        ended: have.ended,
-    };
-    let stand = lead(run.stand, t);
-    let mut r = run;
-    r.stand = stand;
-    r.span = span;
-    r
+    let from = run.span.from.saturating_add(t.octets);
+    Run {
+        stand: lead(run.stand, t),
+        span: Span { from, ..run.span },
+        ..run
+    }
 }
 
 // Writes the frames that wait.
@@ -152,7 +131,8 @@ fn write_on<W: Write>(output: &mut W, out: &mut [u8], os: &[u8], run: Run) -> Ru
         return fail(r, Failure::Write(why));
     }
     if os.len() < out.len() {
-        r.held = trace_io::lines::say(out, 0, os);
+        out[..os.len()].copy_from_slice(os);
+        r.held = os.len();
         return r;
     }
     match output.write_all(os) {
@@ -166,9 +146,9 @@ fn put<W: Write>(output: &mut W, out: &mut [u8], os: &[u8], run: Run) -> Run {
     let held = run.held;
     if held <= out.len() {
         if os.len() <= out.len() - held {
-            let mut r = run;
-            r.held = trace_io::lines::say(out, held, os);
-            return r;
+            let end = held + os.len();
+            out[held..end].copy_from_slice(os);
+            return Run { held: end, ..run };
         }
     }
     write_on(output, out, os, run)
@@ -176,52 +156,47 @@ fn put<W: Write>(output: &mut W, out: &mut [u8], os: &[u8], run: Run) -> Run {
 
 // Frames are kept.
 fn keep<W: Write>(output: &mut W, out: &mut [u8], os: &[u8], run: Run) -> Run {
-    let mut r = run;
-    r.kept = plus(run.kept, os.len() as u64);
-    put(output, out, os, r)
+    let kept = run.kept.saturating_add(os.len() as u64);
+    put(output, out, os, Run { kept, ..run })
 }
 
 // A cut goes on, or ends here.
-fn cut(text: &mut [u8], run: Run) -> Run {
+fn cut(lines: &mut Lines, run: Run) -> Run {
     let stand = run.stand;
     if stand.cutting {
         return run;
     }
-    let fault = run.fault;
     let size = cut_size(stand);
-    let mut r = run;
-    r.filled = super::report::tell_cut(text, run.filled, stand.from, size, fault);
-    r.cut = plus(run.cut, size);
-    r.spans = plus(run.spans, 1);
-    r
+    super::report::tell_cut(lines, stand.from, size, run.fault);
+    Run {
+        cut: run.cut.saturating_add(size),
+        spans: run.spans.saturating_add(1),
+        ..run
+    }
 }
 
 // A cut opens here.
 fn open(window: &[u8], run: Run) -> Run {
-    let stand = run.stand;
-    let span = run.span;
     Run {
-        stand,
-        span,
-        fault: trace_frames::fault::fault_of(window),
-        kept: run.kept,
-        cut: run.cut,
-        spans: run.spans,
-        held: run.held,
-        filled: run.filled,
-        more: true,
-        failure: Failure::None,
+        fault: Some(trace_frames::fault::fault_of(window)),
+        ..run
     }
 }
 
 // A turn over what is read.
-fn advance<W: Write>(output: &mut W, buf: &[u8], out: &mut [u8], text: &mut [u8], run: Run) -> Run {
+fn advance<W: Write>(
+    output: &mut W,
+    buf: &[u8],
+    out: &mut [u8],
+    lines: &mut Lines,
+    run: Run,
+) -> Run {
     let w = window(buf, run.span);
     let t = turn_over(w, run.span.ended, run.stand.cutting);
     let n = t.octets;
     let mut r = pass(run, t);
     if run.stand.cutting {
-        return cut(text, r);
+        return cut(lines, r);
     }
     if t.kept {
         return keep(output, out, &w[0..n], r);
@@ -239,13 +214,13 @@ fn step<R: Read, W: Write>(
     output: &mut W,
     buf: &mut [u8],
     out: &mut [u8],
-    text: &mut [u8],
+    lines: &mut Lines,
     run: Run,
 ) -> Run {
     if is_short(run.span) {
         return fetch(input, buf, run);
     }
-    advance(output, buf, out, text, run)
+    advance(output, buf, out, lines, run)
 }
 
 // Turn by turn to the end of the trace; the count only makes the loop end.
@@ -254,13 +229,14 @@ fn play<R: Read, W: Write>(
     output: &mut W,
     buf: &mut [u8],
     out: &mut [u8],
-    text: &mut [u8],
+    lines: &mut Lines,
 ) -> Run {
     let mut run = begin();
-    let mut turns = u64::MAX;
-    while turns > 0 && run.more {
-        run = step(input, output, buf, out, text, run);
-        turns -= 1;
+    for _ in 0..u64::MAX {
+        if !run.more {
+            break;
+        }
+        run = step(input, output, buf, out, lines, run);
     }
     run
 }
@@ -274,22 +250,16 @@ fn last<W: Write>(output: &mut W, out: &[u8], run: Run) -> Run {
 }
 
 // Writes what waits, and behind it the totals, or why the run ended before.
-fn finish<W: Write>(output: &mut W, out: &[u8], text: &mut [u8], run: Run) {
+fn finish<W: Write>(output: &mut W, out: &[u8], lines: &mut Lines, run: Run) {
     let r = last(output, out, run);
-    let failure = r.failure;
-    match failure {
-        Failure::None => {
-            let filled = super::report::tell_all(text, r.filled, r.kept, r.cut, r.spans);
-            super::report::write(text, filled);
-        }
-        Failure::Read(why) => {
-            super::report::write(text, r.filled);
-            super::report::tell_error(b"cannot read the trace", &why);
-        }
-        Failure::Write(why) => {
-            super::report::write(text, r.filled);
-            super::report::tell_error(b"cannot write", &why);
-        }
+    if r.failure.is_none() {
+        super::report::tell_all(lines, r.kept, r.cut, r.spans);
+    }
+    lines.flush();
+    match r.failure {
+        None => {}
+        Some(Failure::Read(why)) => super::report::tell_error(b"cannot read the trace", &why),
+        Some(Failure::Write(why)) => super::report::tell_error(b"cannot write", &why),
     }
 }
 
@@ -297,7 +267,7 @@ fn finish<W: Write>(output: &mut W, out: &[u8], text: &mut [u8], run: Run) {
 pub fn salvage<R: Read, W: Write>(input: &mut R, output: &mut W) {
     let mut buf = window_room();
     let mut out = io::large_buffer();
-    let mut text = io::large_buffer();
-    let run = play(input, output, &mut buf, &mut out, &mut text);
-    finish(output, &out, &mut text, run);
+    let mut lines = Lines::to(ERRORS);
+    let run = play(input, output, &mut buf, &mut out, &mut lines);
+    finish(output, &out, &mut lines, run);
 }

@@ -1,12 +1,6 @@
 // Numbers of a frame, big-endian.
 ghost use Rattle.std.specs.Prelude.{◌≡◌, ◌<◌, length};
 
-fn wide(octet: u8) -> u32
-    ensures { result < 256 }
-{
-    octet as u32
-}
-
 // The octet at an index; 0 where it is missing.
 pub fn octet(s: &[u8], at: usize) -> u32
     ensures { result < 256 }
@@ -14,7 +8,7 @@ pub fn octet(s: &[u8], at: usize) -> u32
     if s.len() <= at {
         return 0;
     }
-    wide(s[at])
+    u32::from(s[at])
 }
 
 // The number of two octets at an index, of which each that is missing is 0.
@@ -59,10 +53,8 @@ pub fn ids_of(s: &[u8]) -> [u16; 128]
     ensures { 128 ≡ length result }
 {
     let mut ids = [0u16; 128];
-    let mut i = 0;
-    while i < 128 {
+    for i in 0..128 {
         ids[i] = pair(s, i * 2) as u16;
-        i += 1;
     }
     ids
 }

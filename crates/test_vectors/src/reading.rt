@@ -3,7 +3,7 @@ ghost use Rattle.std.specs.Prelude.{◌≤◌};
 
 use crate::{line, room};
 use codec_read::{Head, Items};
-use trace_io::lines::{say, say_number};
+use trace_io::lines::Lines;
 
 // Whether the message is written as these octets, with those behind them left as they were.
 fn is_written_again(
@@ -21,33 +21,37 @@ fn is_written_again(
 }
 
 // The items behind the values: ` : id ..` where they are ids or none, ` # octets` in hexadecimal where they are a string.
-fn put_items(text: &mut [u8], at: usize, items: Items, ids: &[u16], octets: &[u8]) -> usize {
+fn put_items(lines: &mut Lines, items: Items, ids: &[u16], octets: &[u8]) {
     match items {
         Items::Octets { .. } => {
-            let next = say(text, at, b" # ");
-            line::put_octets(text, next, octets)
+            lines.say(b" # ");
+            line::put_octets(lines, octets);
         }
         Items::Ids(_) => {
-            let next = say(text, at, b" :");
-            line::put_numbers(text, next, &[], ids, ids.len())
+            lines.say(b" :");
+            for id in ids {
+                line::put_number(lines, u64::from(*id));
+            }
         }
     }
 }
 
 // `number value ..`, the items, and the mark: that the message is written again as it was.
 fn put_message(
-    text: &mut [u8],
+    lines: &mut Lines,
     head: Head,
     values: &[u32],
     ids: &[u16],
     octets: &[u8],
     message: &[u8],
-) -> usize {
+) {
     let is_same = is_written_again(head.number, values, ids, octets, message);
-    let start = say_number(text, 0, head.number as u64);
-    let next = line::put_numbers(text, start, values, &[], values.len());
-    let end = put_items(text, next, head.items, ids, octets);
-    line::put_mark(text, end, is_same)
+    lines.say_number(u64::from(head.number));
+    for value in values {
+        line::put_number(lines, u64::from(*value));
+    }
+    put_items(lines, head.items, ids, octets);
+    line::put_mark(lines, is_same);
 }
 
 // So many, or none where there are fewer.
@@ -87,21 +91,21 @@ fn string_of<'a>(items: Items, message: &'a [u8]) -> &'a [u8] {
 }
 
 // The line of octets to be read.
-pub fn answer(message: &[u8], text: &mut [u8]) -> usize {
+pub fn answer(lines: &mut Lines, message: &[u8]) {
     match codec_read_fast::decode(message) {
-        Err(refusal) => line::put_refusal(text, refusal.into()),
+        Err(refusal) => line::put_refusal(lines, refusal.into()),
         Ok(d) => {
             let head = d.head;
             let values = head.values;
             let ids = d.ids;
             put_message(
-                text,
+                lines,
                 head,
                 values_of(head, &values),
                 ids_of(head.items, &ids),
                 string_of(head.items, message),
                 message,
-            )
+            );
         }
     }
 }

@@ -1,8 +1,6 @@
 // The trace program's run: reads frames, plays each on the domain, and prints a line for each.
 #![tactic(auto)]
 
-ghost use Rattle.std.specs.Prelude.{◌≤◌, length};
-
 use domain::Limits;
 use domain::answer::Answer;
 use domain::numbers::Reply;
@@ -10,7 +8,7 @@ use domain_tables::{Channels, Domain, Members, Tokens, Users};
 use std::io::Read;
 use trace_frames::{Frame, Kind};
 use trace_io::input::Span;
-use trace_io::lines::Report;
+use trace_io::lines::{Lines, OUTPUT, Report};
 
 // Room for answers that never meets reply 9.
 const ROOM: usize = 17200;
@@ -23,20 +21,11 @@ pub enum Form {
     Words,
 }
 
-// Where the run stands: what is not taken of the input, what is filled of the output, and the number of the next frame.
+// A frame that was taken: what it is answered with, and how many octets it is long. A bad one, behind which no other is sought, has no length.
 #[derive(Clone, Copy)]
-struct Turn {
-    span: Span,
-    filled: usize,
-    number: u64,
-}
-
-// What stood at the front of the input: nothing, since it is over; no good frame, which ends the run; or a frame, which was played.
-#[derive(Clone, Copy)]
-enum Taken {
-    End,
-    Bad,
-    Played { answer: Answer, size: usize },
+struct Taken {
+    answer: Answer,
+    size: Option<usize>,
 }
 
 // An event of this kind on a connection.
@@ -57,28 +46,33 @@ fn event(
     }
 }
 
-// Takes the frame at the front of s and plays it.
-fn take_frame(s: &[u8], d: &mut Domain, room: &mut [u8; ROOM]) -> Taken {
-    let found = trace_frames::next_frame(s);
-    match found {
-        Frame::End => Taken::End,
-        Frame::Bad => Taken::Bad,
+// Takes the frame at the front of s and plays it; none where the trace is over.
+fn take_frame(s: &[u8], d: &mut Domain, room: &mut [u8; ROOM]) -> Option<Taken> {
+    match trace_frames::next_frame(s) {
+        Frame::End => None,
+        Frame::Bad => Some(Taken {
+            answer: Answer {
+                reply: Reply::BadFrame,
+                sent: 0,
+            },
+            size: None,
+        }),
         Frame::Good {
             kind,
             connection,
             start,
             size,
-        } => Taken::Played {
+        } => Some(Taken {
             answer: event(d, kind, connection, &s[start..size], room),
-            size,
-        },
+            size: Some(size),
+        }),
     }
 }
 
-// The line of a frame: the reply, octets sent, users, channels and tokens in use.
+// The line of an answer: the reply, octets sent, users, channels and tokens in use.
 fn report(answer: Answer, d: &Domain) -> Report {
     Report {
-        reply: u8::from(answer.reply) as u64,
+        reply: u64::from(u8::from(answer.reply)),
         sent: answer.sent as u64,
         users: serve_session::in_use(&d.users.ids) as u64,
         channels: serve_session::in_use(&d.channels.ids) as u64,
@@ -86,22 +80,19 @@ fn report(answer: Answer, d: &Domain) -> Report {
     }
 }
 
-// Prints the line of a report, and behind it the octets sent on a line of their own.
-fn print_sent(output: &mut [u8], filled: usize, report: Report, room: &[u8; ROOM]) -> usize {
-    let at = trace_io::lines::add_line(output, filled, report);
+// Says the line of a report, and behind it the octets sent on a line of their own.
+fn say_sent(lines: &mut Lines, report: Report, room: &[u8; ROOM]) {
+    lines.say_report(report);
     let sent = (report.sent % 65536) as usize;
-    let all = &room[..];
-    if all.len() < sent {
-        return at;
+    if sent <= ROOM {
+        lines.say_octets(&room[..sent], false);
+        lines.say(b"\n");
     }
-    let end = trace_io::hexadecimal::say_octets(output, at, &all[..sent], false);
-    trace_io::lines::collect(output, end, b"\n")
 }
 
-// Shows a frame in the form of the run, and answers what is filled then.
+// Shows a frame in the form of the run.
 fn show(
-    output: &mut [u8],
-    filled: usize,
+    lines: &mut Lines,
     form: Form,
     number: u64,
     s: &[u8],
@@ -109,136 +100,80 @@ fn show(
     room: &[u8; ROOM],
     d: &Domain,
     old_tokens: &mut Tokens,
-) -> usize {
+) {
     match form {
-        Form::Lines => trace_io::lines::add_line(output, filled, report),
-        Form::Sent => print_sent(output, filled, report, room),
+        Form::Lines => lines.say_report(report),
+        Form::Sent => say_sent(lines, report, room),
         Form::Words => explain_frame::put_frame(
-            output,
-            filled,
-            number,
-            s,
-            report,
-            room,
-            &d.users,
-            &d.tokens,
-            old_tokens,
+            lines, number, s, report, room, &d.users, &d.tokens, old_tokens,
         ),
-    }
-}
-
-// Shows what the run ends with: in words, the table of the tokens.
-fn show_end(output: &mut [u8], filled: usize, form: Form, d: &Domain) -> usize {
-    match form {
-        Form::Lines => filled,
-        Form::Sent => filled,
-        Form::Words => explain_tokens::put_table(output, filled, &d.users, &d.tokens),
     }
 }
 
 // What is left of a span behind its first octets; nothing where it has fewer.
 fn behind(span: Span, size: usize) -> Span {
-    if span.to < span.from {
-        return span;
-    }
-    if span.to - span.from < size {
-        return Span {
-            from: span.to,
-            to: span.to,
-            ended: span.ended,
-        };
-    }
     Span {
-        from: span.from + size,
-        to: span.to,
-        ended: span.ended,
+        from: span.from.saturating_add(size).min(span.to),
+        ..span
     }
 }
 
-// Takes one frame and shows it, and answers whether the run goes on: behind a good frame it does.
+// Takes one frame and shows it. What is left of the input, where the run goes on: behind a good frame.
 fn step<R: Read>(
     source: &mut R,
     input: &mut [u8],
-    output: &mut [u8],
+    have: Span,
+    lines: &mut Lines,
+    form: Form,
+    number: u64,
     d: &mut Domain,
     old_tokens: &mut Tokens,
     room: &mut [u8; ROOM],
-    form: Form,
-    at: &mut Turn,
-) -> bool {
-    let span = trace_io::input::ready(source, input, at.span);
-    let taken = take_frame(&input[span.from..span.to], d, room);
-    let answer = match taken {
-        Taken::End => return false,
-        Taken::Bad => Answer {
-            reply: Reply::BadFrame,
-            sent: 0,
-        },
-        Taken::Played { answer, .. } => answer,
-    };
-    at.filled = show(
-        output,
-        at.filled,
-        form,
-        at.number,
-        &input[span.from..span.to],
-        report(answer, d),
-        room,
-        d,
-        old_tokens,
-    );
-    match taken {
-        Taken::Played { size, .. } => {
-            at.span = behind(span, size);
-            at.number = at.number.wrapping_add(1);
-            true
-        }
-        _ => false,
-    }
+) -> Option<Span> {
+    let span = trace_io::input::ready(source, input, have);
+    let s = &input[span.from..span.to];
+    let taken = take_frame(s, d, room)?;
+    let line = report(taken.answer, d);
+    show(lines, form, number, s, line, room, d, old_tokens);
+    let size = taken.size?;
+    Some(behind(span, size))
 }
 
-// A proved loop has to end, and nothing says that the input does: the loop has a number of turns that no run uses up.
-fn play<R: Read>(
-    source: &mut R,
-    input: &mut [u8],
-    output: &mut [u8],
-    d: &mut Domain,
-    old_tokens: &mut Tokens,
-    room: &mut [u8; ROOM],
-    form: Form,
-) {
-    let mut at = Turn {
-        span: trace_io::input::start(),
-        filled: 0,
-        number: 1,
-    };
-    for _ in 0..u64::MAX {
-        if !step(source, input, output, d, old_tokens, room, form, &mut at) {
-            break;
+// A proved loop has to end, and nothing says that the input does: the frames are counted up to a number that no run reaches.
+fn play<R: Read>(source: &mut R, lines: &mut Lines, form: Form, d: &mut Domain) {
+    let mut input = [0u8; 131072];
+    let mut room = [0u8; ROOM];
+    let mut old_tokens = no_tokens();
+    let mut span = trace_io::input::start();
+    for number in 1..u64::MAX {
+        match step(
+            source,
+            &mut input,
+            span,
+            lines,
+            form,
+            number,
+            d,
+            &mut old_tokens,
+            &mut room,
+        ) {
+            Some(rest) => span = rest,
+            None => break,
         }
     }
-    let filled = show_end(output, at.filled, form, d);
-    trace_io::lines::flush(output, filled);
 }
 
 // A fresh domain with limits 128, 64, 64, and frames from a source. The input's buffer holds the longest frame, 65,537 octets, and as much again, so that few octets are
-// moved. The tokens as they were before a frame stand beside the tables, for a run in words.
+// moved. The tokens as they were before a frame stand beside the tables, for a run in words, which ends with their table.
 pub fn run<R: Read>(form: Form, source: &mut R) {
-    let mut input = [0u8; 131072];
-    let mut output = [0u8; 65536];
-    let mut room = [0u8; ROOM];
+    let mut lines = Lines::to(OUTPUT);
     let mut d = empty();
-    let mut old_tokens = no_tokens();
     serve_session::start(&mut d, 128, 64, 64);
-    play(
-        source,
-        &mut input,
-        &mut output,
-        &mut d,
-        &mut old_tokens,
-        &mut room,
-        form,
-    );
+    play(source, &mut lines, form, &mut d);
+    if let Form::Words = form {
+        explain_tokens::put_table(&mut lines, &d.users, &d.tokens);
+    }
+    lines.flush();
 }
 
 // A domain before its start.

@@ -11,4 +11,4 @@ slice_bounds-put_octets_line-end c = sym (length-take-le c.bad_size-size.result 
 
 pub returns : goal.returns
 unfolding ascii bad_texts
-returns c = says_then c.say-a.ensures (says_as c.put_octets_line.ensures (ap octets_line c.bad_size-size.ensures.1))
+returns c = says_then c.say.ensures (says_as c.put_octets_line.ensures (ap octets_line c.bad_size-size.ensures.1))

@@ -18,4 +18,4 @@ returns-in-Loss c = says_as c.put_count-in-Loss.ensures (event_is c.args.kind Lo
 
 pub returns-in-Message : goal.returns-in-Message
 unfolding ascii event_texts in_words
-returns-in-Message c = says_as (says_then c.put_count-a.ensures (says_then c.say-b.ensures c.put_message.ensures)) (event_is c.args.kind Message c.args.connection c.args.message.now (search rules))
+returns-in-Message c = says_as (says_then c.put_count-in-Message.ensures (says_then c.say.ensures c.put_message.ensures)) (event_is c.args.kind Message c.args.connection c.args.message.now (search rules))

@@ -20,11 +20,11 @@ returns-in-Grabbed c = says_as c.put_user.ensures (holding_is c.args.users.now.i
 
 pub returns-in-Inhibited : goal.returns-in-Inhibited
 unfolding ascii holding_texts
-returns-in-Inhibited c = says_as (says_then c.say-a.ensures (says_as c.put_rising.ensures (ap (λ l. over id_texts (in_order l)) c.members.ensures))) (holding_is c.args.users.now.ids c.args.h _ c.in-Inhibited.is)
+returns-in-Inhibited c = says_as (says_then c.say-in-Inhibited.ensures (says_as c.put_rising.ensures (ap (λ l. over id_texts (in_order l)) c.members.ensures))) (holding_is c.args.users.now.ids c.args.h _ c.in-Inhibited.is)
 
 pub returns-in-Giving : goal.returns-in-Giving
 unfolding ascii holding_texts
-returns-in-Giving c = says_as (says_then c.put_user-a.ensures c.put_user-in-Giving.ensures) (holding_is c.args.users.now.ids c.args.h _ c.in-Giving.is)
+returns-in-Giving c = says_as (says_then c.put_user-in-Giving.ensures c.put_user-in-Giving-2.ensures) (holding_is c.args.users.now.ids c.args.h _ c.in-Giving.is)
 
 pub returns-in-Given : goal.returns-in-Given
 unfolding ascii holding_texts

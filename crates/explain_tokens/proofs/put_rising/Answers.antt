@@ -8,7 +8,7 @@ pub returns-then-k-eq0 : goal.returns-then-k-eq0
 returns-then-k-eq0 c = rising_done c.next-k.result c.loop.invariant c.next-k.ensures c.if-k-eq0.true
 
 pub loop-preserved : goal.loop-preserved
-loop-preserved c = rising_more c.next-k.result c.loop.invariant c.next-k.ensures c.if-k-eq0.false c.loop-test.true c.put_id-at.auto.out c.put_id-at.ensures
+loop-preserved c = rising_more c.next-k.result c.loop.invariant c.next-k.ensures c.if-k-eq0.false c.loop-test.true c.put_id.ensures
 
 pub returns : goal.returns
 returns c = rising_over c.loop.invariant c.loop-test.false

@@ -12,8 +12,8 @@ returns-then-k-eq0 c = rising_done c.next-k.result c.loop.invariant c.next-k.ens
 
 pub loop-preserved : goal.loop-preserved
 unfolding state_texts
-loop-preserved c = rising_more c.next-k.result c.loop.invariant c.next-k.ensures c.if-k-eq0.false c.loop-test.true c.put_token-at.auto.out
-    (says_as c.put_token-at.ensures (ap (λ h. token_texts c.args.users.now.ids c.next-k.result h) c.state.ensures))
+loop-preserved c = rising_more c.next-k.result c.loop.invariant c.next-k.ensures c.if-k-eq0.false c.loop-test.true
+    (says_as c.put_token.ensures (ap (λ h. token_texts c.args.users.now.ids c.next-k.result h) c.state.ensures))
 
 pub returns : goal.returns
 returns c = rising_over c.loop.invariant c.loop-test.false

@@ -1,14 +1,13 @@
--- `trace_run::take_frame` is safe: a good frame lies in what is read. Assumes nothing.
-use Rattle.std.proofs.Common.{sym, ap, ◌∙◌}
-use Rattle.trace_frames.specs.Frames.{meaning}
+-- `trace_run::take_frame` meets its contract: a good frame lies in what is read. Assumes nothing.
+use Rattle.std.proofs.Common.{sym}
 use Rattle.trace_frames.proofs.Laws.{inside}
 use Rattle.trace_run.proofs.take_frame.Goals as goal
 
 pub slice_bounds-event-count : goal.slice_bounds-event-count
-slice_bounds-event-count c = (inside _ _ _ _ _ (sym c.next_frame-found.ensures ∙ ap meaning c.in-Good.is)).0
+slice_bounds-event-count c = (inside _ _ _ _ _ (sym c.in-Good.ensures)).0
 
 pub slice_bounds-event-start : goal.slice_bounds-event-start
-slice_bounds-event-start c = (inside _ _ _ _ _ (sym c.next_frame-found.ensures ∙ ap meaning c.in-Good.is)).0
+slice_bounds-event-start c = (inside _ _ _ _ _ (sym c.in-Good.ensures)).0
 
 pub slice_bounds-event-end : goal.slice_bounds-event-end
-slice_bounds-event-end c = (inside _ _ _ _ _ (sym c.next_frame-found.ensures ∙ ap meaning c.in-Good.is)).1
+slice_bounds-event-end c = (inside _ _ _ _ _ (sym c.in-Good.ensures)).1

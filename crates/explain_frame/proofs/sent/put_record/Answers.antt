@@ -15,6 +15,6 @@ pub returns : goal.returns
 unfolding ascii record_texts in_words
 returns c =
     let s = c.args.one.now in
-    let number = says_as c.say_number-b.ensures (ap (λ n. decimal n ∷ []) c.wide.ensures.0) in
-    let message = says_as c.put_message-d.ensures (ap in_words (take_all (length s - 4) (drop 4 s) (omega (arith, length-drop 4 s)))) in
-    says_then c.say-a.ensures (says_then number (says_then c.say-c.ensures (says_then message c.say.ensures)))
+    let number = says_as c.say_number.ensures (ap (λ n. decimal n ∷ []) c.wide.ensures.0) in
+    let message = says_as c.put_message.ensures (ap in_words (take_all (length s - 4) (drop 4 s) (omega (arith, length-drop 4 s)))) in
+    says_then c.say.ensures (says_then number (says_then c.say-2.ensures (says_then message c.say-3.ensures)))

@@ -5,14 +5,11 @@ use Rattle.explain_frame.proofs.sent.put_records.Goals as goal
 pub loop-size-init : goal.loop-size-init
 loop-size-init c = sending_start c.size_at-size.result c.size_at-size.ensures
 
-pub put_record-at-requires : goal.put_record-at-requires
-put_record-at-requires c = sending_whole c.loop-size.invariant c.loop-size-test.true
+pub put_record-requires : goal.put_record-requires
+put_record-requires c = sending_whole c.loop-size.invariant c.loop-size-test.true
 
 pub loop-size-preserved : goal.loop-size-preserved
-loop-size-preserved c = sending_more c.size_at-size-in-loop-size.result c.loop-size.invariant c.loop-size-test.true c.put_record-at.auto.out c.size_at-size-in-loop-size.ensures c.put_record-at.ensures
-
-pub shape_of-out : goal.shape_of-out
-shape_of-out c = c.loop-size.invariant.room
+loop-size-preserved c = sending_more c.size_at-size-in-loop-size.result c.loop-size.invariant c.loop-size-test.true c.size_at-size-in-loop-size.ensures c.put_record.ensures
 
 pub returns : goal.returns
 returns c = sending_end c.loop-size.invariant c.loop-size-test.false
