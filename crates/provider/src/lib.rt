@@ -60,18 +60,17 @@ fn long_message(d: &mut Domain, p: u8, octets: &[u8], out: &mut [u8]) -> Answer
         ≡ after (domain_in d.old) (hears p (understood octets.now)) out.old }
 {
     let mut listed = [0u16; 64];
-    let u = serve_read::understand(octets, &mut listed);
-    match u.reply {
-        Reply::Done => serve_dispatch::listed_request(
+    match serve_read::understand(octets, &mut listed) {
+        Ok(q) => serve_dispatch::listed_request(
             d,
             p,
-            u.number,
-            u.first,
-            u.second,
+            q.number,
+            q.first,
+            q.second,
             &mut listed,
-            u.count,
+            q.count,
             out,
         ),
-        _ => serve_refuse::refuse(p, u.reply, octets, out),
+        Err(reply) => serve_refuse::refuse(p, reply, octets, out),
     }
 }

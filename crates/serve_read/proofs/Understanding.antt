@@ -1,5 +1,5 @@
 -- What is understood of octets, test by test, and that a request as the code holds it asks for what the message does. Assumes nothing.
-use Rattle.std.specs.Prelude.{if◌then◌else◌}
+use Rattle.std.specs.Prelude.{if◌then◌else◌, Ok, Err}
 use mathlib.Core.Path.{◌≡◌, refl, sym, ap, ap₂, ◌∙◌, subst}
 use mathlib.Core.Bool.{Bool, true, false, not, cond, ◌||◌, false≢true}
 use mathlib.Core.List.{List, [], ◌∷◌}
@@ -20,7 +20,6 @@ use Rattle.codec_table.specs.Named.{fields, formed, heard}
 use Rattle.codec_table.proofs.CodecLaws.{taken}
 use Rattle.codec_table.proofs.NamedLaws.{ranges, heard_read as heard_decoded, read_named, heard_formed, refused_heard}
 use Rattle.codec_table.proofs.Refusals.{refusal, refusals, number_read}
-use Rattle.std.specs.Prelude.{Ok, Err}
 use Rattle.codec_octets.specs.declared.refusal.Refusal.{Refusal}
 use Rattle.codec_octets.specs.Refusals.{refusal_number}
 use Rattle.codec_read.specs.Held.{padded, is_string, items_held, count_of, held, decoded, head_of, has_ids, kept, Reads}
@@ -31,14 +30,15 @@ use Rattle.codec_read_fast.specs.declared.tokens.Wish.{Wish}
 use Rattle.codec_read_fast.specs.Shortly.{of_values, in_full, in_words, token_number, short_number, few_ids, NoneRead, Shortly, Wishes}
 use Rattle.codec_read_fast.specs.declared.lists.Listing.{Listing}
 use Rattle.codec_read_fast.specs.Listed.{in_list, Listed}
+use Rattle.domain.specs.declared.numbers.Reply.{Reply}
 use Rattle.domain.specs.Numbers.{reply_number}
 use Rattle.domain.specs.Tables.{Domain}
 use Rattle.domain.specs.Effects.{Effect}
 use Rattle.domain.specs.Events.{reads, refuses, act, answers, ends, sends, complaint}
-use Rattle.serve_read.specs.declared.Understood.{Understood}
+use Rattle.serve_read.specs.declared.Request.{Request}
 use Rattle.serve_read.specs.Understood.{number_in, read_as, understood}
 use Rattle.serve_read.specs.Requests.{pass_request, token_request, brief_request, listed_request}
-use Rattle.serve_read.specs.Readings.{reply_for, requested, asks, Understands, Requests, Asked}
+use Rattle.serve_read.specs.Readings.{reply_for, requested, asks, Understands, listed_as, request_of}
 
 -- ---- the tests, in their order
 module _ (os : List ℕ) where
@@ -70,10 +70,9 @@ module _ (os : List ℕ) where
         read_understood h = rw (lt-ltb 0 (length os) some, le-leb (length os) 1024 few, le-ltb 42 (number_in os) known, up, h) refl
 
 -- ---- a refusal
-pub refuses_asks : (os : List ℕ) (n : ℕ) (u : Understood) (listed : List ℕ) → understood os ≡ refuses n os → reply_number u.reply ≡ n → eqb n 0 ≡ false
-    → Understands os u listed
+pub refuses_asks : (os : List ℕ) (r : Reply) (listed : List ℕ) → understood os ≡ refuses (reply_number r) os → Understands os (Err r) listed
 unfolding answers asks
-refuses_asks os n u listed e r z new d p room = rw (e, r, z) refl
+refuses_asks os r listed e new d p room = rw e refl
 
 pub reply_for_is : (n : ℕ) → refusal n ≡ true → reply_for n ≡ n
 unfolding refusal reply_for
@@ -90,14 +89,6 @@ reply_for_is n h = four (eqb n 4) refl
     four : (b : Bool) → eqb n 4 ≡ b → (if b then 4 else if eqb n 5 then 5 else if eqb n 7 then 7 else 8) ≡ n
     four true e = sym (eqb-true n 4 e)
     four false e = five (eqb n 5) refl (rw e at h)
-
-refusal_some : (n : ℕ) → refusal n ≡ true → eqb n 0 ≡ false
-unfolding refusal
-refusal_some n h = go (eqb n 0) refl
-  where
-    go : (b : Bool) → eqb n 0 ≡ b → b ≡ false
-    go true e = let z : n ≡ 0 = eqb-true n 0 e in sym (rw z at h)
-    go false e = refl
 
 -- ---- a request: nothing of a message is lost
 small : (v : ℕ) → v ≤ 65535 → v % 65536 ≡ v
@@ -288,55 +279,52 @@ module _ (os : List ℕ) (y : Bytes os) (dec : Decoded) (e : ok dec ≡ decoded 
       go x f n false h = refl
 
   -- what is read before is none of these
-  list_understood : NoneRead few_ids os → (u : Understood) → Asked dec.head u → (listed : List ℕ) → Lists dec listed → Understands os u listed
+  list_understood : NoneRead few_ids os → (listed : List ℕ) → Lists dec listed → Understands os (Ok (request_of dec.head)) listed
   unfolding asks requested asked_for value_in
-  list_understood none u a listed l new d p room =
-      read_asks listed l new d p room
-      ∙ rw (a.done, a.number_is, a.first_is, a.second_is, a.count_is, not_few none) refl
+  list_understood none listed l new d p room = read_asks listed l new d p room ∙ rw (not_few none) refl
 
 -- the long way
-module _ (os before listed : List ℕ) (u : Understood) where
-  pub head_asks : (h : Head) → Reads os (decode os) before listed (Ok h) → NoneRead few_ids os → Asked h u → Bytes os → is_served (number_in os) ≡ true → Understands os u listed
+module _ (os before listed : List ℕ) where
+  pub head_asks : (h : Head) → Reads os (decode os) before listed (Ok h) → NoneRead few_ids os → Bytes os → is_served (number_in os) ≡ true → Understands os (Ok (request_of h)) listed
   unfolding decoded held
-  head_asks h w none a y s = go (decode os) refl
+  head_asks h w none y s = go (decode os) refl
     where
-      go : (o : Outcome Msg) → decode os ≡ o → Understands os u listed
+      go : (o : Outcome Msg) → decode os ≡ o → Understands os (Ok (request_of h)) listed
       go (ok x) f =
           let same : h ≡ (held os x).head = cc (w.head ∙ ap (λ (o : Outcome Msg). head_of (decoded os o)) f) in
-          list_understood os y (held os x) (ap (decoded os) (sym f)) (ap is_served (number_is os x f) ∙ s) none u
-          (subst (λ (z : Head). Asked z u) same a) listed (kept_lists os x listed before (w.list x f))
+          subst (λ (z : Head). Understands os (Ok (request_of z)) listed) (sym same)
+          (list_understood os y (held os x) (ap (decoded os) (sym f)) (ap is_served (number_is os x f) ∙ s) none listed (kept_lists os x listed before (w.list x f)))
       go (refuse n) f = absurd (cc (w.head ∙ ap (λ (o : Outcome Msg). head_of (decoded os o)) f))
 
-  pub codec_asks : (r : Refusal) → Reads os (decode os) before listed (Err r) → understood os ≡ read_as os (heard os) → reply_number u.reply ≡ reply_for (refusal_number r) → Understands os u listed
+  pub codec_asks : (refusal : Refusal) → Reads os (decode os) before listed (Err refusal) → understood os ≡ read_as os (heard os) → (r : Reply) → reply_number r ≡ reply_for (refusal_number refusal) → Understands os (Err r) listed
   unfolding decoded read_as
-  codec_asks r w i k = go (decode os) refl
+  codec_asks refusal w i r e = go (decode os) refl
     where
-      go : (o : Outcome Msg) → decode os ≡ o → Understands os u listed
+      go : (o : Outcome Msg) → decode os ≡ o → Understands os (Err r) listed
       go (ok x) f = absurd (cc (w.head ∙ ap (λ (o : Outcome Msg). head_of (decoded os o)) f))
       go (refuse n) f =
-          let z : refusal_number r ≡ n = cc (w.head ∙ ap (λ (o : Outcome Msg). head_of (decoded os o)) f) in
-          refuses_asks os n u listed (i ∙ ap (read_as os) (refused_heard os n f)) (k ∙ ap reply_for z ∙ reply_for_is n (refusals os n f)) (refusal_some n (refusals os n f))
+          let z : refusal_number refusal ≡ n = cc (w.head ∙ ap (λ (o : Outcome Msg). head_of (decoded os o)) f) in
+          let same : reply_number r ≡ n = e ∙ ap reply_for z ∙ reply_for_is n (refusals os n f) in
+          refuses_asks os r listed (i ∙ ap (read_as os) (refused_heard os n f) ∙ ap (λ k. refuses k os) (sym same))
 
 -- a message with a list
-pub list_asks : (os : List ℕ) → Bytes os → NoneRead few_ids os → (u : Understood) (listed : List ℕ) (l : Listing) → Listed os l listed → l.first < 65536 → l.second < 65536
-    → Requests l.number l.first l.second l.count u → Understands os u listed
+pub list_asks : (os : List ℕ) → Bytes os → NoneRead few_ids os → (listed : List ℕ) (l : Listing) → Listed os l listed → l.first < 65536 → l.second < 65536
+    → Understands os (Ok (listed_as l)) listed
 unfolding in_list Lists
-list_asks os y none u listed l h a b r =
-    list_understood os y (in_list l listed) h.same h.served none u
-    (rw (← small l.first (omega arith), ← small l.second (omega arith)) at r) listed
-    (λ k. sym (ap (λ n. take n (padded 64 (take l.count listed))) (sym h.stored) ∙ first_listed (take l.count listed)))
+list_asks os y none listed l h a b =
+    rw (← small l.first (omega arith), ← small l.second (omega arith))
+    (list_understood os y (in_list l listed) h.same h.served none listed
+    (λ k. sym (ap (λ n. take n (padded 64 (take l.count listed))) (sym h.stored) ∙ first_listed (take l.count listed))))
 
--- ---- what is asked, by the reply
-module _ (new : ℕ) (d : Domain) (p room : ℕ) (os : List ℕ) (u : Understood) (listed : List ℕ) where
-  pub refused_asks : (reply_number u.reply ≡ 0 → ⊥)
-      → asks new d p room os u listed ≡ sends d room (reply_number u.reply) d (complaint (reply_number u.reply) p os)
+-- ---- what is asked: a refusal, and a request
+module _ (new : ℕ) (d : Domain) (p room : ℕ) (os listed : List ℕ) where
+  pub refused_asks : (r : Reply) → asks new d p room os (Err r) listed ≡ sends d room (reply_number r) d (complaint (reply_number r) p os)
   unfolding asks
-  refused_asks h = rw (ne_eqb (reply_number u.reply) 0 h) refl
+  refused_asks r = refl
 
-  pub listed_asks : reply_number u.reply ≡ 0
-      → asks new d p room os u listed ≡ ends d room (act new d p (listed_request u.number u.first u.second (take u.count listed)))
+  pub listed_asks : (q : Request) → asks new d p room os (Ok q) listed ≡ ends d room (act new d p (listed_request q.number q.first q.second (take q.count listed)))
   unfolding asks requested
-  listed_asks h = rw h refl
+  listed_asks q = refl
 
 -- ---- a message of a few ids, which has no list
 few_lists : (dec : Decoded) → count_of dec.head.items ≡ 0 → Lists dec []

@@ -1,38 +1,36 @@
 -- What the code makes of octets: a refusal by its number, or a request.
-use Rattle.std.specs.Prelude.{◌≡◌, ℕ, ◌%◌, List, eqb, take, get_or, if◌then◌else◌}
+use Rattle.std.specs.Prelude.{◌≡◌, ℕ, ◌%◌, List, eqb, take, get_or, if◌then◌else◌, Result, Ok, Err}
 use Rattle.codec_table.specs.Named.{Message}
 use Rattle.codec_read.specs.declared.Head.{Head}
 use Rattle.codec_read.specs.Held.{count_of}
+use Rattle.codec_read_fast.specs.declared.lists.Listing.{Listing}
+use Rattle.domain.specs.declared.numbers.Reply.{Reply}
 use Rattle.domain.specs.Numbers.{reply_number}
 use Rattle.domain.specs.Tables.{Domain}
 use Rattle.domain.specs.Events.{Outcome, act, answers, ends, sends, complaint}
 use Rattle.serve_read.specs.Requests.{listed_request}
-use Rattle.serve_read.specs.declared.Understood.{Understood}
+use Rattle.serve_read.specs.declared.Request.{Request}
 use Rattle.serve_read.specs.Understood.{understood}
 
 -- the reply of a codec's refusal
 unfoldable pub reply_for : ℕ → ℕ
 reply_for n = if eqb n 4 then 4 else if eqb n 5 then 5 else if eqb n 7 then 7 else 8
 
--- what the code understood, with the ids that it listed: a reply other than 0 refuses, and else a request is made
-unfoldable pub requested : Understood → List ℕ → Message
-requested u listed = listed_request u.number u.first u.second (take u.count listed)
+-- what a request asks for, with the ids that were listed
+unfoldable pub requested : Request → List ℕ → Message
+requested q listed = listed_request q.number q.first q.second (take q.count listed)
 
-unfoldable pub asks : (new : ℕ) (d : Domain) (p room : ℕ) (os : List ℕ) (u : Understood) (listed : List ℕ) → Outcome
-asks new d p room os u listed =
-    if eqb (reply_number u.reply) 0 then ends d room (act new d p (requested u listed))
-    else sends d room (reply_number u.reply) d (complaint (reply_number u.reply) p os)
+-- what the code understood: a request is made, a reply refuses
+unfoldable pub asks : (new : ℕ) (d : Domain) (p room : ℕ) (os : List ℕ) (r : Result Request Reply) (listed : List ℕ) → Outcome
+asks new d p room os (Ok q) listed = ends d room (act new d p (requested q listed))
+asks new d p room os (Err r) listed = sends d room (reply_number r) d (complaint (reply_number r) p os)
 
-abbrev pub Understands : (os : List ℕ) (u : Understood) (listed : List ℕ) → Type 0
-Understands os u listed = (new : ℕ) (d : Domain) (p room : ℕ) → answers new d p (understood os) room ≡ asks new d p room os u listed
+abbrev pub Understands : (os : List ℕ) (r : Result Request Reply) (listed : List ℕ) → Type 0
+Understands os r listed = (new : ℕ) (d : Domain) (p room : ℕ) → answers new d p (understood os) room ≡ asks new d p room os r listed
 
--- a request by its number, values and count of ids; and one of a message that was read: nothing is lost below 65,536
-pub record Requests (number first second count : ℕ) (u : Understood) : Type 0 where
-  pub done : reply_number u.reply ≡ 0
-  pub number_is : u.number ≡ number
-  pub first_is : u.first ≡ first
-  pub second_is : u.second ≡ second
-  pub count_is : u.count ≡ count
+-- the request of a message with a list; and of one that was read: nothing is lost below 65,536
+abbrev pub listed_as : Listing → Request
+listed_as l = record { number = l.number; first = l.first; second = l.second; count = l.count }
 
-abbrev pub Asked : Head → Understood → Type 0
-Asked h u = Requests h.number (get_or h.values 0 0 % 65536) (get_or h.values 1 0 % 65536) (count_of h.items) u
+abbrev pub request_of : Head → Request
+request_of h = record { number = h.number; first = get_or h.values 0 0 % 65536; second = get_or h.values 1 0 % 65536; count = count_of h.items }

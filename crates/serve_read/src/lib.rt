@@ -5,56 +5,88 @@ ghost use Rattle.std.specs.Prelude.{◌≡◌};
 ghost use Rattle.codec_octets.specs.Refusals.{refusal_number};
 ghost use Rattle.domain.specs.Numbers.{reply_number};
 ghost use Rattle.codec_read_fast.specs.Shortly.{few_ids, NoneRead};
-ghost use Rattle.serve_read.specs.Readings.{reply_for, Understands, Requests, Asked};
+ghost use Rattle.serve_read.specs.Readings.{reply_for, Understands, request_of, listed_as};
 
 use codec_octets::Refusal;
 use codec_read::Head;
+use codec_read_fast::lists::Listing;
 use domain::numbers::Reply;
 
-// A reply that refuses, or Done with a request: its number, first values and how many ids it lists.
+// What a message asks for: its number, first values and how many ids it lists.
 #[derive(Clone, Copy)]
-pub struct Understood {
-    pub reply: Reply,
+pub struct Request {
     pub number: u32,
     pub first: u16,
     pub second: u16,
     pub count: usize,
 }
 
-// Messages with a list of ids first, which is stored; else the long way, which stores it too. Those of a few ids alone are read before, where no
-// list is at hand (`codec_read_fast` `read_token`, `read_short`): nothing is said of them here, so a request need hold no more than two values and a list.
-pub fn understand(octets: &[u8], listed: &mut [u16; 64]) -> Understood
+impl From<Listing> for Request {
+    ghost from_gives = { λ l q. q ≡ listed_as l };
+
+    fn from(l: Listing) -> Request {
+        Request {
+            number: l.number,
+            first: l.first,
+            second: l.second,
+            count: l.count,
+        }
+    }
+}
+
+// Of a message that the table reads; ids and codes are below 65,536.
+impl From<Head> for Request {
+    ghost from_gives = { λ h q. q ≡ request_of h };
+
+    fn from(h: Head) -> Request {
+        Request {
+            number: h.number,
+            first: (h.values[0] % 65536) as u16,
+            second: (h.values[1] % 65536) as u16,
+            count: h.items.count(),
+        }
+    }
+}
+
+// A request, or the reply that refuses the message. Messages with a list of ids first, which is stored; else the long way, which stores it too. Those of a
+// few ids alone are read before, where no list is at hand (`codec_read_fast` `read_token`, `read_short`): nothing is said of them here, so a request need
+// hold no more than two values and a list.
+pub fn understand(octets: &[u8], listed: &mut [u16; 64]) -> Result<Request, Reply>
     ensures { NoneRead few_ids octets.now → Understands octets.now result listed.new }
 {
     if let Some(l) = codec_read_fast::lists::read_listing(octets, listed) {
-        return done(l.number, l.first, l.second, l.count);
+        let asked = Request::from(l);
+        return Ok(asked);
     }
     understand_all(octets, listed)
 }
 
-fn understand_all(octets: &[u8], listed: &mut [u16; 64]) -> Understood
+fn understand_all(octets: &[u8], listed: &mut [u16; 64]) -> Result<Request, Reply>
     ensures { NoneRead few_ids octets.now → Understands octets.now result listed.new }
 {
     if octets.len() == 0 {
-        return refused(Reply::WrongLength);
+        return Err(Reply::WrongLength);
     }
     if codec_table::MESSAGE_LIMIT < octets.len() {
-        return refused(Reply::WrongLength);
+        return Err(Reply::WrongLength);
     }
     let number = (octets[0] / 4) as u32;
     if 42 < number {
-        return refused(Reply::BadEncoding);
+        return Err(Reply::BadEncoding);
     }
     let way = codec_table::way_of(number);
     if !codec_table::goes_up(way) {
-        return refused(Reply::MayNotGoUp);
+        return Err(Reply::MayNotGoUp);
     }
     if !codec_table::is_served(way) {
-        return refused(Reply::NotServed);
+        return Err(Reply::NotServed);
     }
     match codec_read::read_into(octets, listed) {
-        Ok(h) => asked(h),
-        Err(refusal) => refused(reply_of(refusal)),
+        Ok(h) => {
+            let read = Request::from(h);
+            Ok(read)
+        }
+        Err(refusal) => Err(reply_of(refusal)),
     }
 }
 
@@ -69,42 +101,4 @@ fn reply_of(refusal: Refusal) -> Reply
         Refusal::NotServed => Reply::NotServed,
         Refusal::TooLong | Refusal::NoRoom => Reply::TooLong,
     }
-}
-
-fn refused(reply: Reply) -> Understood
-    ensures { result.reply ≡ reply }
-{
-    Understood {
-        reply: reply,
-        number: 0,
-        first: 0,
-        second: 0,
-        count: 0,
-    }
-}
-
-// A request: its number, first values and how many ids it lists.
-fn done(number: u32, first: u16, second: u16, count: usize) -> Understood
-    ensures { Requests number first second count result }
-{
-    Understood {
-        reply: Reply::Done,
-        number: number,
-        first: first,
-        second: second,
-        count: count,
-    }
-}
-
-// The request of a message that was read; ids and codes are below 65,536.
-fn asked(h: Head) -> Understood
-    ensures { Asked h result }
-{
-    let values = h.values;
-    done(
-        h.number,
-        (values[0] % 65536) as u16,
-        (values[1] % 65536) as u16,
-        h.items.count(),
-    )
 }

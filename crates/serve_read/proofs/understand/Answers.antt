@@ -7,5 +7,4 @@ use Rattle.serve_read.proofs.understand.Goals as goal
 pub returns-in-Some : goal.returns-in-Some
 returns-in-Some c none =
     let os = c.args.octets.now in
-    list_asks os (bytes_at os (λ i. omega (arith, c.type_inv.octets i))) none _ _ _
-    c.in-Some.ensures (search rules) (search rules) c.done.ensures
+    rw c.from-asked.ensures (list_asks os (bytes_at os (λ i. omega (arith, c.type_inv.octets i))) none _ c.in-Some.l c.in-Some.ensures (search rules) (search rules))
