@@ -12,7 +12,10 @@ use Rattle.domain.specs.declared.Limits.{Limits}
 use Rattle.domain.specs.Tables.{Users, Channels, Tokens, Domain, put_channels, put_tokens, put_both}
 use Rattle.domain.specs.Effects.{Effect, ignored, done, within, Settled, settled, delivers, settle}
 use Rattle.domain.specs.Events.{act}
-use Rattle.domain.specs.Assembled.{assembled}
+
+-- the domain of its tables
+abbrev pub assembled : (l : Limits) (m : ℕ) (us : Users) (cs : Channels) (ts : Tokens) → Domain
+assembled l m us cs ts = record { limits = l; links = m; users = us; channels = cs; tokens = ts }
 
 -- the same answer, of tables that hold others too
 module _ {A B : Type 0} (put : A → B) where

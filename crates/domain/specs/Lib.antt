@@ -2,7 +2,6 @@ pub mod Numbers
 pub mod Cells
 pub mod Tokens
 pub mod Tables
-pub mod Lent
 pub mod Effects
 pub mod Channels
 pub mod Leaving
@@ -12,5 +11,4 @@ pub mod Good
 pub mod History
 pub mod Claims
 pub mod Hearers
-pub mod Assembled
 pub mod Outcomes

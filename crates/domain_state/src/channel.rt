@@ -1,18 +1,12 @@
 // One channel: its kind, when it ends, and who may join.
 ghost use Rattle.std.specs.Prelude.{◌≡◌};
-ghost use Rattle.domain.specs.Cells.{kind as kind_in, channel_of};
+ghost use Rattle.domain.specs.Cells.{channel_of};
 ghost use Rattle.domain.specs.Tables.{lapses as lapses_of};
 ghost use Rattle.domain.specs.Channels.{may as may_of};
 ghost use Rattle.domain.specs.Numbers.{result_number};
 
 use domain::channel::{Channel, Kind};
 use domain::numbers::Result;
-
-pub fn kind_of(ch: Channel) -> Kind
-    ensures { result ≡ kind_in ch }
-{
-    Kind::from(ch)
-}
 
 // A channel of a kind with these connections joined.
 #[tactic(auto, unfolding(domain::specs::Cells::channel_of))]

@@ -2,5 +2,4 @@
 #![tactic(auto)]
 
 pub mod channel;
-pub mod numbers;
 pub mod token;

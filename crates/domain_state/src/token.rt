@@ -1,6 +1,5 @@
 // One token: its state, its status for a user, and what a request by the user at place u makes of it.
 ghost use Rattle.std.specs.Prelude.{◌≡◌};
-ghost use Rattle.domain.specs.Cells.{hold, token_of};
 ghost use Rattle.domain.specs.Tables.{is_free};
 ghost use Rattle.domain.specs.Tokens.{status as status_of, grab as grab_of, inhibit as inhibit_of, release as release_of, grabbed_by, offered_to, responded as answered_of, party as party_of, lose as lose_of, lose_offer, inhibited as inhibited_of, turned_of};
 ghost use Rattle.domain.specs.Numbers.{status_number};
@@ -8,19 +7,7 @@ ghost use Rattle.domain.specs.Numbers.{status_number};
 use cols_masks::Mask;
 use domain::numbers;
 use domain::numbers::Status;
-use domain::token::{Holding, Token};
-
-pub fn holding_of(t: Token) -> Holding
-    ensures { result ≡ hold t }
-{
-    Holding::from(t)
-}
-
-pub fn new_token(h: Holding) -> Token
-    ensures { result ≡ token_of h }
-{
-    Token::from(h)
-}
+use domain::token::Holding;
 
 #[tactic(auto, unfolding(domain::specs::Tables::is_free))]
 pub fn free(h: Holding) -> bool

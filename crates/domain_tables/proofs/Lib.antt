@@ -1,4 +1,3 @@
-pub mod PlaceLaws
 pub mod UserLaws
 pub mod TokenLaws
 pub mod Marking

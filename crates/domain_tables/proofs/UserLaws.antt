@@ -12,7 +12,7 @@ use lib.Dec.{eqb, ltb}
 use lib.ListN.{length, get_or}
 use borrow.Author.Tests.{eq-eqb, ne_eqb, eqb-true, eqb-false, ltb-true, ltb-false}
 use Rattle.cols_spec.specs.Sets.{any, upto, below, has, with, without, connections, seats, NextIn}
-use Rattle.cols_spec.specs.Places.{Place, At, Nowhere, find, number}
+use Rattle.cols_spec.specs.Places.{Place, At, Nowhere, find}
 use Rattle.cols_spec.proofs.Rows.{get_d_any}
 use Rattle.cols_spec.proofs.Digits.{has_high, has_with, has_without, is_those, those_lt}
 use Rattle.cols_spec.proofs.Marks.{in_without}
@@ -28,20 +28,6 @@ pub link_is : (names homes : List ℕ) (i : ℕ) → i < length homes → link (
 unfolding link
 link_is names homes i h = get_d_any homes i connections 0 h
 
-module _ (names homes : List ℕ) (p u i : ℕ) where
-  pub attached_here : find names u ≡ At i → i < length homes → get_or homes i 0 ≡ p → number 64 (attached (users_of names homes) p u) ≡ i
-  unfolding attached number at_of
-  attached_here e h q = ap (λ (w : Place). number 64 (at_of (users_of names homes) p w)) e ∙ rw (link_is names homes i h, eq-eqb (get_or homes i 0) p q) refl
-
-  pub attached_elsewhere : find names u ≡ At i → i < length homes → (get_or homes i 0 ≡ p → ⊥) → number 64 (attached (users_of names homes) p u) ≡ 64
-  unfolding attached number at_of
-  attached_elsewhere e h q = ap (λ (w : Place). number 64 (at_of (users_of names homes) p w)) e ∙ rw (link_is names homes i h, ne_eqb (get_or homes i 0) p q) refl
-
-  pub attached_nowhere : find names u ≡ Nowhere → number 64 (attached (users_of names homes) p u) ≡ 64
-  unfolding attached number at_of
-  attached_nowhere e = ap (λ (w : Place). number 64 (at_of (users_of names homes) p w)) e
-
--- the same as a place
 module _ (names homes : List ℕ) (p u i : ℕ) where
   pub is_attached : find names u ≡ At i → i < length homes → get_or homes i 0 ≡ p → attached (users_of names homes) p u ≡ At i
   unfolding attached at_of

@@ -1,12 +1,8 @@
--- A place answered as a number, and a token's cell stored where its place is known.
-use Rattle.std.specs.Prelude.{ℕ, Option, Some, None, eqb, ltb, if◌then◌else◌}
+-- A place that code answers, and a token's cell stored where its place is known.
+use Rattle.std.specs.Prelude.{ℕ, Option, Some, None, eqb, if◌then◌else◌}
 use Rattle.cols_spec.specs.Places.{Place, At, Nowhere, found, spare, store}
 use Rattle.domain.specs.declared.token.Token.{Token}
 use Rattle.domain.specs.Tables.{Tokens}
-
--- of n places the one with this number; any other number is nowhere
-unfoldable pub place : (n i : ℕ) → Place
-place n i = if ltb i n then At i else Nowhere
 
 -- a place that code answers, or none
 abbrev pub placed : Option ℕ → Place

@@ -74,7 +74,7 @@ fn join_at(
         ≡ settle cs (join_at cs ask.p ask.u ask.c j (may (kind (channel cs j)) ask.c ask.u i)) out.old }
 {
     let ch = channels.at(members, j);
-    let res = domain_state::channel::may_join(domain_state::channel::kind_of(ch), ask.c, ask.u, i);
+    let res = domain_state::channel::may_join(Kind::from(ch), ask.c, ask.u, i);
     let denied = res != numbers::Result::Successful;
     if denied {
         return ask.confirm(out, Err(res));
@@ -176,7 +176,7 @@ fn any_joined(channels: &Channels, members: &Members, p: u8, listed: &[u16]) -> 
 fn ends(ch: Channel, left: u16) -> bool
     ensures { result ≡ (lapses (kind ch) && eqb left 0) }
 {
-    left == 0 && domain_state::channel::lapses(domain_state::channel::kind_of(ch))
+    left == 0 && domain_state::channel::lapses(Kind::from(ch))
 }
 
 // p leaves the channel at place j, where that is listed.

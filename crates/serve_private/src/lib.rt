@@ -48,7 +48,7 @@ fn presides(ch: Channel, i: u8) -> bool
     ensures yes { result ≡ true → (go : (ℕ → ℕ → Effect ChannelsOf)) → owned (kind ch) i go ≡ go ch.chair ch.guests }
     ensures no { result ≡ false → (go : (ℕ → ℕ → Effect ChannelsOf)) → owned (kind ch) i go ≡ ignored_by }
 {
-    match domain_state::channel::kind_of(ch) {
+    match Kind::from(ch) {
         Kind::Private(_, _) => ch.chair == i,
         Kind::Static | Kind::User | Kind::Assigned => false,
     }

@@ -7,7 +7,7 @@ use Rattle.domain_tables.proofs.tokens.Tokens.held_at.Goals as goal
 
 pub returns-then-i-lt64 : goal.returns-then-i-lt64
 returns-then-i-lt64 c = let s = c.args.self.now in
-    rw (c.holding_of.ensures, token_at s.states s.values c.args.i (search rules) (search rules)) refl
+    rw (c.from.ensures, token_at s.states s.values c.args.i (search rules) (search rules)) refl
 
 pub returns : goal.returns
 unfolding hold
