@@ -33,24 +33,28 @@ pub struct Leavers {
 }
 
 // The records of those who leave, put together where there is room for them; how many octets they take: 17,200 are enough for any. A short room is
-// counted for first, and nothing is put then.
+// counted for in a first turn, in which nothing is put. A loop, and no second call: called at one place the records' function is inlined, and at
+// two it took 260 octets of stack more (docs/MEASURED.md).
 fn say(out: &mut [u8], d: &Domain, live: u16, reason: u8, list: &[u16; 64], who: Leavers) -> usize
     ensures { let os = records (farewell_of (domain_in d.now) who.seats live reason (take who.count list.now)) in
         (result ≡ length os) × (result ≤ length out.old → Puts out.old 0 os out.new result) × (length out.old < result → out.new ≡ out.old) }
 {
     let room = out.len();
-    let to = out_records::tried(room, 17200);
-    let total = serve_leave_records::farewell(
-        &mut out[..to],
-        d,
-        who.seats,
-        live,
-        reason,
-        list,
-        who.count,
-    );
-    if (to < room) & (total <= room) {
-        return serve_leave_records::farewell(out, d, who.seats, live, reason, list, who.count);
+    let mut to = out_records::tried(room, 17200);
+    let mut total = 0;
+    let mut again = true;
+    while again {
+        total = serve_leave_records::farewell(
+            &mut out[..to],
+            d,
+            who.seats,
+            live,
+            reason,
+            list,
+            who.count,
+        );
+        again = (to < room) & (total <= room);
+        to = room;
     }
     total
 }
@@ -70,7 +74,8 @@ fn leave(
         → answered result (domain_in d.new) out.new ≡ settle (domain_in d.old) (leave_of (domain_in d.old) live reason gone) out.old }
 {
     let total = say(out, d, live, reason, list, who);
-    if out.len() < total {
+    let is_short = out.len() < total;
+    if is_short {
         return Answer {
             reply: Reply::NoRoom,
             sent: 0,
