@@ -29,28 +29,27 @@ struct Place {
 pub fn resumes(s: &[u8]) -> bool
     ensures { result ≡ resumes_at s.now }
 {
-    let size = trace_frames::good_size(s);
-    if size == 0 {
-        return false;
+    match trace_frames::good_size(s) {
+        None => false,
+        Some(size) => {
+            if size == s.len() {
+                return true;
+            }
+            trace_frames::good_size(&s[size..]).is_some()
+        }
     }
-    if size == s.len() {
-        return true;
-    }
-    0 < trace_frames::good_size(&s[size..])
 }
 
 // How many octets stand before the first such place; all of them where there is none.
 fn until(s: &[u8]) -> usize
     ensures { result ≡ until_place s.now }
 {
-    let mut n = 0;
-    while n < s.len() {
+    for n in 0..s.len() {
         if resumes(&s[n..]) {
             return n;
         }
-        n += 1;
     }
-    n
+    s.len()
 }
 
 // Puts octets into a room from a place on.
@@ -58,11 +57,8 @@ fn lay(room: &mut [u8], at: usize, os: &[u8])
     requires { at + length os.now ≤ length room.old }
     ensures { room.new ≡ sets room.old at os.now }
 {
-    let mut i = 0;
-    while i < os.len() {
-        room[at + i] = os[i];
-        i += 1;
-    }
+    let end = at + os.len();
+    room[at..end].copy_from_slice(os);
 }
 
 // The octets of a frame, where the room has them.
@@ -83,23 +79,7 @@ fn put_number(list: &mut [u8], at: usize, n: usize)
     requires { at + 8 ≤ length list.old }
     ensures { list.new ≡ sets list.old at (octets_of 8 n) }
 {
-    let a = n % 72057594037927936;
-    let b = a % 281474976710656;
-    let c = b % 1099511627776;
-    let d = c % 4294967296;
-    let e = d % 16777216;
-    let f = e % 65536;
-    let os = [
-        (n / 72057594037927936) as u8,
-        (a / 281474976710656) as u8,
-        (b / 1099511627776) as u8,
-        (c / 4294967296) as u8,
-        (d / 16777216) as u8,
-        (e / 65536) as u8,
-        (f / 256) as u8,
-        (f % 256) as u8,
-    ];
-    lay(list, at, &os);
+    lay(list, at, &(n as u64).to_be_bytes());
 }
 
 // Entry number k of the list: start and length of a span that is cut out, where the list has room for it.
@@ -120,25 +100,28 @@ fn step(trace: &[u8], p: Place, out: &mut [u8], list: &mut [u8]) -> Place
     ensures { Takes trace.now (first (drop p.at trace.now)) p out.old list.old result out.new list.new }
 {
     let at = p.at;
-    let size = trace_frames::good_size(&trace[at..]);
-    if size == 0 {
-        let gap = until(&trace[at..]);
-        put_cut(list, p.cuts, at, gap);
-        let next = at + gap;
-        let cuts = p.cuts + 1;
-        return Place {
-            at: next,
-            kept: p.kept,
-            cuts,
-        };
-    }
-    let end = at + size;
-    put_frame(out, p.kept, &trace[at..end]);
-    let kept = p.kept + size;
-    Place {
-        at: end,
-        kept,
-        cuts: p.cuts,
+    match trace_frames::good_size(&trace[at..]) {
+        None => {
+            let gap = until(&trace[at..]);
+            put_cut(list, p.cuts, at, gap);
+            let next = at + gap;
+            let cuts = p.cuts + 1;
+            Place {
+                at: next,
+                kept: p.kept,
+                cuts,
+            }
+        }
+        Some(size) => {
+            let end = at + size;
+            put_frame(out, p.kept, &trace[at..end]);
+            let kept = p.kept + size;
+            Place {
+                at: end,
+                kept,
+                cuts: p.cuts,
+            }
+        }
     }
 }
 

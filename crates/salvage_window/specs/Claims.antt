@@ -1,8 +1,7 @@
 -- What is claimed of a trace that is salvaged window by window, whatever the windows are. proofs/Sweeping and proofs/Answers have the proofs.
-use Rattle.std.specs.Prelude.{ℕ, ◌+◌, ◌-◌, ◌*◌, ◌≤◌, ◌<◌, ◌≡◌, ◌≢◌, ◌⊎◌, Bool, true, false, ◌&&◌, not, cond, List, [], ◌++◌, ltb, length, take, drop}
+use Rattle.std.specs.Prelude.{None, ℕ, ◌+◌, ◌-◌, ◌*◌, ◌≤◌, ◌<◌, ◌≡◌, ◌≢◌, ◌⊎◌, Bool, true, false, ◌&&◌, not, cond, List, [], ◌++◌, ltb, length, take, drop}
 use Rattle.trace_frames.specs.Claims.{OctetsBelow256}
 use Rattle.trace_frames.specs.Good.{longest}
-use Rattle.trace_frames.specs.declared.fault.Fault.TheVariants.{Nothing}
 use Rattle.trace_frames.specs.Fault.{fault_of}
 use Rattle.salvage.specs.Answer.{entry, output, cut_list}
 use Rattle.salvage_window.specs.declared.Turn.{Turn}
@@ -75,4 +74,4 @@ abbrev pub FaultTold : Type 0
 FaultTold = (s : List ℕ) (p : Place) (w more : List ℕ) (ended : Bool) → OctetsBelow256 s → Window s p w more ended
     → p.cutting ≡ false
     → (turn_of ended w p.cutting).cutting ≡ true
-    → (fault_of w ≡ fault_of (drop p.at s)) × (fault_of w ≢ Nothing)
+    → (fault_of w ≡ fault_of (drop p.at s)) × (fault_of w ≢ None)

@@ -1,9 +1,10 @@
 // Salvages a torn trace window by window: what is decided at a place rests on no more than two frames.
 #![tactic(auto)]
 
-ghost use Rattle.std.specs.Prelude.{◌≡◌, ◌+◌, ◌-◌};
+ghost use Rattle.std.specs.Prelude.{◌≡◌, ◌-◌};
+ghost use Rattle.trace_frames.specs.Good.{some_size};
 ghost use Rattle.salvage_window.specs.Windows.{decided as decided_by, sure as sure_size, keeps as keeps_all, stops as stops_at, skips as skips_all, expected, passed, turn_of};
-ghost use Rattle.salvage_window.specs.Stands.{capped, stood};
+ghost use Rattle.salvage_window.specs.Stands.{stood};
 
 // The octets of the longest frame, and of two.
 const ONE: usize = 65537;
@@ -28,14 +29,14 @@ fn decided(have: usize, ended: bool, need: usize) -> bool
     need <= have
 }
 
-// The size of the good frame at the front of w; 0 where none begins or w is too short to tell.
-fn sure(w: &[u8], ended: bool) -> usize
-    ensures { result ≡ sure_size ended w.now }
+// The size of the good frame at the front of w, where one begins and w is not too short to tell.
+fn sure(w: &[u8], ended: bool) -> Option<usize>
+    ensures { result ≡ some_size (sure_size ended w.now) }
 {
     if decided(w.len(), ended, ONE) {
         return trace_frames::good_size(w);
     }
-    0
+    None
 }
 
 // How many octets such frames have that stand one behind the other.
@@ -43,11 +44,7 @@ fn keeps(w: &[u8], ended: bool) -> usize
     ensures { result ≡ keeps_all ended w.now }
 {
     let mut n = 0;
-    while n < w.len() {
-        let size = sure(&w[n..], ended);
-        if size == 0 {
-            return n;
-        }
+    while let Some(size) = sure(&w[n..], ended) {
         n += size;
     }
     n
@@ -67,14 +64,12 @@ fn stops(w: &[u8], ended: bool) -> bool
 fn skips(w: &[u8], ended: bool) -> usize
     ensures { result ≡ skips_all ended w.now }
 {
-    let mut n = 0;
-    while n < w.len() {
+    for n in 0..w.len() {
         if stops(&w[n..], ended) {
             return n;
         }
-        n += 1;
     }
-    n
+    w.len()
 }
 
 // A turn where a frame is expected.
@@ -134,21 +129,11 @@ pub struct Stand {
     pub from: u64,
 }
 
-// A sum of octets; where a u64 has no room for it, the most that it holds.
-pub fn plus(a: u64, b: u64) -> u64
-    ensures { result ≡ capped (a + b) }
-{
-    if 18446744073709551615 - a < b {
-        return 18446744073709551615;
-    }
-    a + b
-}
-
-// Where a turn leads.
+// Where a turn leads. Where a u64 has no room for the octets passed, it is the most that it holds.
 pub fn lead(p: Stand, t: Turn) -> Stand
     ensures { result ≡ stood p t }
 {
-    let at = plus(p.at, t.octets as u64);
+    let at = p.at.saturating_add(t.octets as u64);
     if p.cutting {
         return Stand {
             at,
@@ -167,8 +152,5 @@ pub fn lead(p: Stand, t: Turn) -> Stand
 pub fn cut_size(p: Stand) -> u64
     ensures { result ≡ p.at - p.from }
 {
-    if p.at < p.from {
-        return 0;
-    }
-    p.at - p.from
+    p.at.saturating_sub(p.from)
 }

@@ -11,7 +11,6 @@ fn words(fault: Fault) -> &'static [u8] {
         Fault::Kind => b"the kind is above 2",
         Fault::Octets => b"an open or a loss with octets",
         Fault::CutOff => b"cut off",
-        Fault::Nothing => b"",
     }
 }
 

@@ -178,7 +178,7 @@ fn cut(lines: &mut Lines, run: Run) -> Run {
 // A cut opens here.
 fn open(window: &[u8], run: Run) -> Run {
     Run {
-        fault: Some(trace_frames::fault::fault_of(window)),
+        fault: trace_frames::fault::fault_of(window),
         ..run
     }
 }

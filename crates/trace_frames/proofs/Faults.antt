@@ -1,4 +1,5 @@
 -- The claims of specs/Fault. Assumes nothing.
+use Rattle.std.specs.Prelude.{Option, Some, None}
 use Prim.Native.Nat.{ℕ, ◌≤◌, ◌<◌}
 use mathlib.Core.Path.{◌≡◌, refl}
 use mathlib.Core.Logic.{◌≢◌, ◌⊎◌, inl, inr, ⊎_elim}
@@ -9,7 +10,7 @@ use borrow.Author.Tests.{ltb-true, ltb-false, leb-true, leb-false, eqb-true, eqb
 use lib.Dec.{leb, ltb, eqb}
 use lib.ListN.{length, length-append, get_or-append}
 use Rattle.trace_frames.specs.declared.fault.Fault.{Fault}
-use Rattle.trace_frames.specs.declared.fault.Fault.TheVariants.{Length, Version, Kind, Octets, CutOff, Nothing}
+use Rattle.trace_frames.specs.declared.fault.Fault.TheVariants.{Length, Version, Kind, Octets, CutOff}
 use Rattle.trace_frames.specs.Frames.{length_of, size_of, version_of, kind_of}
 use Rattle.trace_frames.specs.Claims.{Breaks, no_length, length_below_3, octets_missing, other_version, other_kind, octets_behind}
 use Rattle.trace_frames.specs.Good.{good_size}
@@ -17,7 +18,7 @@ use Rattle.trace_frames.specs.Fault.{fault_behind, fault_inside, fault_of, Told,
 use Rattle.trace_frames.proofs.Good.{broken, keeping, size_says}
 
 -- what holds of both answers of a test holds of the answer
-by : (P : Fault → Type 0) (t : Bool) (a b : Fault) → (t ≡ true → P a) → (t ≡ false → P b) → P (cond t a b)
+by : (P : Option Fault → Type 0) (t : Bool) (a b : Option Fault) → (t ≡ true → P a) → (t ≡ false → P b) → P (cond t a b)
 by P true a b f g = f refl
 by P false a b f g = g refl
 
@@ -71,21 +72,21 @@ there s =
     (λ a. by (Told s) (ltb (length_of s) 3) _ _ (λ b. ltb-true (length_of s) 3 b) (λ b. inside_there s (ltb-false (length_of s) 3 b)))
 
 -- a fault that is told is a rule that is broken
-pub breaks : (s : List ℕ) (f : Fault) → Told s f → f ≢ Nothing → Breaks s
-breaks s Length t n = length_below_3 t
-breaks s Version t n = other_version t
-breaks s Kind t n = other_kind t
-breaks s Octets t n = octets_behind t.0 t.1
-breaks s CutOff t n = ⊎_elim (λ h. no_length h) (λ h. octets_missing h) t
-breaks s Nothing t n = absurd (n refl)
+pub breaks : (s : List ℕ) (f : Option Fault) → Told s f → f ≢ None → Breaks s
+breaks s (Some Length) t n = length_below_3 t
+breaks s (Some Version) t n = other_version t
+breaks s (Some Kind) t n = other_kind t
+breaks s (Some Octets) t n = octets_behind t.0 t.1
+breaks s (Some CutOff) t n = ⊎_elim (λ h. no_length h) (λ h. octets_missing h) t
+breaks s None t n = absurd (n refl)
 
-told_nothing : (s : List ℕ) (f : Fault) → 0 < good_size s → Told s f → f ≡ Nothing
-told_nothing s Length g t = absurd (omega (arith, broken s (length_below_3 t)))
-told_nothing s Version g t = absurd (omega (arith, broken s (other_version t)))
-told_nothing s Kind g t = absurd (omega (arith, broken s (other_kind t)))
-told_nothing s Octets g t = absurd (omega (arith, broken s (octets_behind t.0 t.1)))
-told_nothing s CutOff g t = absurd (omega (arith, broken s (⊎_elim (λ h. no_length h) (λ h. octets_missing h) t)))
-told_nothing s Nothing g t = refl
+told_nothing : (s : List ℕ) (f : Option Fault) → 0 < good_size s → Told s f → f ≡ None
+told_nothing s (Some Length) g t = absurd (omega (arith, broken s (length_below_3 t)))
+told_nothing s (Some Version) g t = absurd (omega (arith, broken s (other_version t)))
+told_nothing s (Some Kind) g t = absurd (omega (arith, broken s (other_kind t)))
+told_nothing s (Some Octets) g t = absurd (omega (arith, broken s (octets_behind t.0 t.1)))
+told_nothing s (Some CutOff) g t = absurd (omega (arith, broken s (⊎_elim (λ h. no_length h) (λ h. octets_missing h) t)))
+told_nothing s None g t = refl
 
 pub nothing : NothingExactly
 nothing s = (λ e. rw e at (there s), λ g. told_nothing s (fault_of s) g (there s))

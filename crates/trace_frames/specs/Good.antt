@@ -1,5 +1,5 @@
 -- The size of a good frame, for those who go from frame to frame and ask nothing else.
-use Rattle.std.specs.Prelude.{ℕ, ◌≤◌, ◌<◌, ◌≡◌, List, ◌++◌, length, take}
+use Rattle.std.specs.Prelude.{ℕ, zero, suc, Option, Some, None, ◌≤◌, ◌<◌, ◌≡◌, List, ◌++◌, length, take}
 use Rattle.trace_frames.specs.Frames.{Front, over, frame, refused, front}
 use Rattle.trace_frames.specs.Claims.{OctetsBelow256}
 
@@ -12,6 +12,11 @@ size_in (refused reply) = 0
 -- how many octets the good frame at the front of s has; 0 where no good frame begins there
 unfoldable pub good_size : List ℕ → ℕ
 good_size s = size_in (front s)
+
+-- that size as the code has it: 0 is none
+abbrev pub some_size : ℕ → Option ℕ
+some_size zero = None
+some_size (suc n) = Some (suc n)
 
 -- a good frame lies in s
 abbrev pub SizeWithin : Type 0

@@ -15,22 +15,20 @@ pub enum Fault {
     Octets,
     // Octets are missing.
     CutOff,
-    // Nothing: a good frame begins.
-    Nothing,
 }
 
 // A front that breaks no rule as far as it goes.
-fn missing(s: &[u8]) -> Fault
+fn missing(s: &[u8]) -> Option<Fault>
     ensures { result ≡ fault_missing s.now }
 {
     if super::whole(s) {
-        return Fault::Nothing;
+        return None;
     }
-    Fault::CutOff
+    Some(Fault::CutOff)
 }
 
 // A front whose length, version and kind are right.
-fn behind(s: &[u8]) -> Fault
+fn behind(s: &[u8]) -> Option<Fault>
     requires { 4 ≤ length s.now }
     ensures { result ≡ fault_behind s.now }
 {
@@ -40,42 +38,42 @@ fn behind(s: &[u8]) -> Fault
     }
     let says = super::following(s[0], s[1]);
     if 3 < says {
-        return Fault::Octets;
+        return Some(Fault::Octets);
     }
     missing(s)
 }
 
 // A front whose length is right.
-fn inside(s: &[u8]) -> Fault
+fn inside(s: &[u8]) -> Option<Fault>
     ensures { result ≡ fault_inside s.now }
 {
     if s.len() < 3 {
-        return Fault::CutOff;
+        return Some(Fault::CutOff);
     }
     let version = s[2];
     if version != 1 {
-        return Fault::Version;
+        return Some(Fault::Version);
     }
     if s.len() < 4 {
-        return Fault::CutOff;
+        return Some(Fault::CutOff);
     }
     let kind = s[3];
     if 2 < kind {
-        return Fault::Kind;
+        return Some(Fault::Kind);
     }
     behind(s)
 }
 
-// What is wrong at the front of s, for any octets.
-pub fn fault_of(s: &[u8]) -> Fault
+// What is wrong at the front of s, for any octets: nothing where a good frame begins.
+pub fn fault_of(s: &[u8]) -> Option<Fault>
     ensures { result ≡ fault_of s.now }
 {
     if s.len() < 2 {
-        return Fault::CutOff;
+        return Some(Fault::CutOff);
     }
     let says = super::following(s[0], s[1]);
     if says < 3 {
-        return Fault::Length;
+        return Some(Fault::Length);
     }
     inside(s)
 }

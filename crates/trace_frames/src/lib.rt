@@ -3,7 +3,7 @@
 
 ghost use Rattle.std.specs.Prelude.{◌≡◌, ◌+◌, ◌*◌, length, leb};
 ghost use Rattle.trace_frames.specs.Frames.{meaning, front, frame, of_kind, kind_number, size_of};
-ghost use Rattle.trace_frames.specs.Good.{size_in, good_size};
+ghost use Rattle.trace_frames.specs.Good.{good_size, some_size};
 
 pub mod fault;
 
@@ -110,25 +110,18 @@ pub fn next_frame(s: &[u8]) -> Frame
     of_kind(s[3], s[4], size)
 }
 
-// How many octets a frame has; 0 where there is none.
-fn size_in(f: Frame) -> usize
-    ensures { result ≡ size_in (meaning f) }
+// How many octets the good frame at the front of s has, where one begins there.
+pub fn good_size(s: &[u8]) -> Option<usize>
+    ensures { result ≡ some_size (good_size s.now) }
 {
-    match f {
-        Frame::End => 0,
+    match next_frame(s) {
+        Frame::End => None,
         Frame::Good {
             kind: _,
             connection: _,
             start: _,
             size,
-        } => size,
-        Frame::Bad => 0,
+        } => Some(size),
+        Frame::Bad => None,
     }
-}
-
-// How many octets the good frame at the front of s has; 0 where no good frame begins there.
-pub fn good_size(s: &[u8]) -> usize
-    ensures { result ≡ good_size s.now }
-{
-    size_in(next_frame(s))
 }

@@ -5,8 +5,8 @@ use lib.ListN.{length, drop}
 use Rattle.salvage_window.specs.Windows.{keeps}
 use Rattle.salvage_window.proofs.keeps.Given as goal
 
-abbrev pub invariant-loop-n : goal.invariant-loop-n
-invariant-loop-n l = (l.n ≤ length l.w) × (l.n + keeps l.ended (drop l.n l.w) ≡ keeps l.ended l.w)
+abbrev pub invariant-loop-size : goal.invariant-loop-size
+invariant-loop-size l = (l.n ≤ length l.w) × (l.n + keeps l.ended (drop l.n l.w) ≡ keeps l.ended l.w)
 
-abbrev pub decreases-loop-n : goal.decreases-loop-n
-decreases-loop-n l = length l.w - l.n
+abbrev pub decreases-loop-size : goal.decreases-loop-size
+decreases-loop-size l = length l.w - l.n
