@@ -1,16 +1,24 @@
 -- Octets laid into a room one behind the other, where they fit. Assumes nothing.
-use Prim.Native.Nat.{ℕ, suc, ◌+◌, ◌-◌, ◌^◌, ◌≤◌, ◌<◌}
+use Prim.Native.Nat.{ℕ, suc, ◌+◌, ◌^◌, ◌≤◌, ◌<◌}
 use mathlib.Core.Path.{◌≡◌, refl, sym, ap, ◌∙◌}
-use mathlib.Core.List.{List, [], ◌∷◌, ◌++◌, append_assoc}
+use mathlib.Core.List.{List, [], ◌∷◌, ◌++◌}
 use native.Mathlib.Nat.{add-zero, add-suc, suc-add, zero-add, div-one}
+use native.Mathlib.Numerals.{add-one}
 use native.Mathlib.Omega.{arith}
-use lib.ListN.{length, take, drop, set, length-append}
-use lib.Seq.{sets, sets-eq, drop-drop}
+use lib.ListN.{length, drop, set, get_or, length-append, drop_of_length-le}
+use lib.Seq.{sets, drop-cons}
 use Rattle.std.specs.Int.{w64, to_be_bytes}
-use borrow.Rule.Slice.PartMut.{put_mid}
 use Rattle.codec_octets.specs.Octets.{octets_of}
 use Rattle.salvage.specs.Answer.{entry}
 use Rattle.salvage.specs.Steps.{Lays}
+
+-- ---- octet by octet
+pub sets_on : (s : List ℕ) (at i : ℕ) (os : List ℕ) → i < length os
+    → sets (set s (at + i) (get_or os i 0)) (at + (i + 1)) (drop (i + 1) os) ≡ sets s (at + i) (drop i os)
+sets_on s at i os h = rw (drop-cons os i 0 h, add-one, add-suc) refl
+
+pub sets_done : (s : List ℕ) (at i : ℕ) (os : List ℕ) → length os ≤ i → sets s at (drop i os) ≡ s
+sets_done s at i os h = rw (drop_of_length-le os h) refl
 
 -- ---- two runs of octets are one
 pub sets_append : (s : List ℕ) (at : ℕ) (xs ys : List ℕ) → sets (sets s at xs) (at + length xs) ys ≡ sets s at (xs ++ ys)
@@ -41,15 +49,6 @@ eight n h =
     (next_octet (omega arith)
     (next_octet (omega arith)
     (next_octet (omega arith) (next_octet (omega arith) (next_octet (omega arith) (next_octet (omega arith) (next_octet (omega (arith, div-one)) refl)))))))
-
--- octets that are copied into a part of a room
-pub copied : (room os part : List ℕ) (at : ℕ) → at + length os ≤ length room → part ≡ os → put_mid at (at + length os - at) room part ≡ sets room at os
-copied room os part at h e =
-    let n = at + length os - at in
-    let k : n ≡ length os = omega arith in
-    ap (λ ps. take at room ++ (ps ++ drop n (drop at room))) e
-    ∙ ap (λ r. take at room ++ (os ++ r)) (drop-drop n at room ∙ ap (λ m. drop (at + m) room) k)
-    ∙ sym (sets-eq os room at h ∙ append_assoc (take at room) os (drop (at + length os) room))
 
 pub lays_both : (room : List ℕ) (at start size : ℕ) {mid room' : List ℕ} → mid ≡ sets room at (octets_of 8 start) → room' ≡ sets mid (at + 8) (octets_of 8 size)
     → Lays room at (entry start size) room'

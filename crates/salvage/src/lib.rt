@@ -52,13 +52,14 @@ fn until(s: &[u8]) -> usize
     s.len()
 }
 
-// Puts octets into a room from a place on.
+// Puts octets into a room from a place on. A loop, and no copy_from_slice: that is memmove, and the library for C calls only memcpy and memset.
 fn lay(room: &mut [u8], at: usize, os: &[u8])
     requires { at + length os.now ≤ length room.old }
     ensures { room.new ≡ sets room.old at os.now }
 {
-    let end = at + os.len();
-    room[at..end].copy_from_slice(os);
+    for i in 0..os.len() {
+        room[at + i] = os[i];
+    }
 }
 
 // The octets of a frame, where the room has them.
