@@ -64,7 +64,10 @@ pub struct Lines {
 
 impl Lines {
     // Nothing waits; what is said goes to this descriptor.
-    pub fn to(descriptor: i32) -> Lines {
+    pub fn to(descriptor: i32) -> Lines
+        ensures none { result.filled ≡ 0 }
+        ensures there { result.to ≡ descriptor }
+    {
         Lines {
             room: [0; 65536],
             filled: 0,
