@@ -69,7 +69,7 @@ pub record Sending (s : List ℕ) (old new : Lines) (from size : ℕ) : Type 0 w
   pub least : 0 < size → 4 ≤ size
   pub turns : ℕ
   pub enough : length s ≤ from + turns
-  pub onward : Onward old.room old.filled (records_texts s) new.room new.filled (first_texts turns (drop from s))
+  pub onward : Onward old (records_texts s) new (first_texts turns (drop from s))
 
 pub sending_start : {s : List ℕ} {old : Lines} (size : ℕ) → size ≡ record_size s → Sending s old old 0 size
 unfolding records_texts

@@ -19,7 +19,7 @@ use Rattle.explain_tokens.specs.Holders.{over, picked_from, holding_texts}
 
 -- a loop that tells the ids of a column in ascending order: it turned i times, and ids up to `low` are told
 pub record Rising (f : ℕ → List (List ℕ)) (ids : List ℕ) (old new : Lines) (low i : ℕ) : Type 0 where
-  pub onward : Onward old.room old.filled (over f (in_order ids)) new.room new.filled (over f (rising (length ids - i) low ids))
+  pub onward : Onward old (over f (in_order ids)) new (over f (rising (length ids - i) low ids))
 
 pub rising_start : {f : ℕ → List (List ℕ)} {ids : List ℕ} {old : Lines} → Rising f ids old old 0 0
 unfolding in_order

@@ -2,7 +2,7 @@
 ghost use Rattle.std.specs.Prelude.{◌≡◌, [], ◌∷◌, ◌++◌, ◌+◌, ◌≤◌, length, leb};
 ghost use Rattle.std.proofs.lemmas.List.Edits.{sets};
 ghost use Rattle.trace_io.specs.Lines.{decimal, field, line_of, Adds};
-ghost use Rattle.trace_io.specs.Waiting.{SaysTo};
+ghost use Rattle.trace_io.specs.Waiting.{SaysTo, with_room};
 
 // The descriptors that are written to: standard output and standard error.
 pub const OUTPUT: i32 = 1;
@@ -54,7 +54,8 @@ fn fits(filled: usize, size: usize, room: usize) -> bool
     filled <= room - size
 }
 
-// Texts on their way to a descriptor: those that wait are the first octets of the room, and are written where there is no room for more.
+// Texts on their way to a descriptor: those that wait are the first octets of the room, and are written where there is no room for more. The descriptor
+// stays.
 #[derive(Drop)]
 pub struct Lines {
     room: [u8; 65536],
@@ -116,14 +117,26 @@ impl Lines {
         self.say(&text[..e]);
     }
 
-    // Writes what waits.
-    pub fn flush(&mut self)
+    // Writes what waits where so many octets have no room behind it: said then, they are written in one piece.
+    pub fn make_room(&mut self, size: usize)
+        ensures { self.new ≡ with_room size self.old }
+    {
+        if !fits(self.filled, size, 65536) {
+            self.flush();
+        }
+    }
+
+    // Writes what waits, and answers whether all of it was written.
+    pub fn flush(&mut self) -> bool
         ensures room { self.new.room ≡ self.old.room }
         ensures none { self.new.filled ≡ 0 }
+        ensures stays { self.new.to ≡ self.old.to }
     {
-        if self.filled <= 65536 {
-            io::write_all(self.to, &self.room[..self.filled]);
-        }
+        let filled = self.filled;
         self.filled = 0;
+        if 65536 < filled {
+            return false;
+        }
+        io::write_all(self.to, &self.room[..filled])
     }
 }

@@ -1,6 +1,6 @@
 -- By each place where the text goes.
 use Prim.Native.Nat.{ℕ, ◌+◌, ◌<◌, ◌≤◌}
-use mathlib.Core.Path.{◌≡◌, sym, ◌∙◌}
+use mathlib.Core.Path.{◌≡◌, refl, sym, ◌∙◌}
 use native.Mathlib.Omega.{arith}
 use borrow.Author.Tests.{leb-true, leb-false}
 use mathlib.Core.Bool.{Bool, true, false}
@@ -28,19 +28,20 @@ pub returns-then-fits : goal.returns-then-fits
 returns-then-fits c =
     let s = c.args.self.now in let t = c.args.text.now in
     let l : length s.room ≡ 65536 = search rules in
-    says_one s.room s.filled t c.lay.new.out _ (collected_behind s.room s.filled t c.lay.new.out (omega (arith, l, has_room s.filled (length t) 65536 c.fits.ensures c.if-fits.true)) c.lay.ensures)
+    says_one t (collected_behind s.room s.filled t c.lay.new.out (omega (arith, l, has_room s.filled (length t) 65536 c.fits.ensures c.if-fits.true)) c.lay.ensures) refl
 
 pub returns-then-size-le65536 : goal.returns-then-size-le65536
 returns-then-size-le65536 c =
     let s = c.args.self.now in let t = c.args.text.now in
     let l : length s.room ≡ 65536 = search rules in
     let laid = c.lay-then-size-le65536 in
-    says_one s.room s.filled t laid.new.out _
+    says_one t
     (collected_alone s.room s.filled t laid.new.out (omega (arith, l, no_room s.filled (length t) 65536 c.fits.ensures c.if-fits.false)) (omega (arith, l, c.if-size-le65536.true)) (rw c.flush.ensures.room at laid.ensures))
+    c.flush.ensures.stays
 
 pub returns : goal.returns
 returns c =
     let s = c.args.self.now in let t = c.args.text.now in
     let l : length s.room ≡ 65536 = search rules in
-    rw (c.flush.ensures.room, c.flush.ensures.none)
-    (says_one s.room s.filled t s.room 0 (collected_none s.room s.filled t (omega (arith, l, no_room s.filled (length t) 65536 c.fits.ensures c.if-fits.false)) (omega (arith, l, c.if-size-le65536.false))))
+    let empty = collected_none s.room s.filled t (omega (arith, l, no_room s.filled (length t) 65536 c.fits.ensures c.if-fits.false)) (omega (arith, l, c.if-size-le65536.false)) in
+    says_one t (rw (c.flush.ensures.room, c.flush.ensures.none) empty) c.flush.ensures.stays
