@@ -25,7 +25,7 @@ fn answer(lines: &mut Lines, frame: &[u8]) {
     }
 }
 
-// One frame: two octets of length, and that many more; and its line. False where the input ends.
+// One frame: two octets of length, and that many more; and its line, which is written at once. False where the input ends or the line cannot be written.
 fn run_next<R: Read>(input: &mut R, room: &mut [u8], lines: &mut Lines) -> bool {
     let mut head = [0u8; 2];
     if read_full(input, &mut head) < 2 {
@@ -37,7 +37,7 @@ fn run_next<R: Read>(input: &mut R, room: &mut [u8], lines: &mut Lines) -> bool 
     }
     answer(lines, &room[..n]);
     lines.say(b"\n");
-    true
+    lines.flush()
 }
 
 fn main(rt: HostRuntime) {
@@ -50,5 +50,4 @@ fn main(rt: HostRuntime) {
             break;
         }
     }
-    lines.flush();
 }
