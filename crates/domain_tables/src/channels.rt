@@ -9,7 +9,7 @@ ghost use Rattle.domain_tables.specs.Numbered.{placed};
 use domain::channel::Channel;
 
 #[repr(C)]
-#[derive(Drop)]
+#[derive(Clone, Copy)]
 pub struct Channels {
     pub ids: [u16; 128],
     pub kinds: [u8; 128],
@@ -18,7 +18,7 @@ pub struct Channels {
 
 // Who is in each channel: of a private one the admitted users; the connections joined.
 #[repr(C)]
-#[derive(Drop)]
+#[derive(Clone, Copy)]
 pub struct Members {
     pub admitted: [u64; 128],
     pub joined: [u16; 128],

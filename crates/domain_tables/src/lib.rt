@@ -17,7 +17,7 @@ pub use users::Users;
 
 // The fields lie as those of `struct ladlestorm_domain` do (include/ladlestorm.h): so the columns of the channels are in two structs.
 #[repr(C)]
-#[derive(Drop)]
+#[derive(Clone, Copy)]
 pub struct Domain {
     pub limits: Limits,
     // The open connections: bit p for connection p.

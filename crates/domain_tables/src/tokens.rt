@@ -9,7 +9,7 @@ ghost use Rattle.domain.specs.Tables.{state as state_in};
 use domain::token::{Holding, Token};
 
 #[repr(C)]
-#[derive(Drop)]
+#[derive(Clone, Copy)]
 pub struct Tokens {
     pub ids: [u16; 64],
     pub states: [u8; 64],

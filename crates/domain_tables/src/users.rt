@@ -7,7 +7,7 @@ ghost use Rattle.domain_tables.specs.Numbered.{placed};
 use cols_masks::Mask;
 
 #[repr(C)]
-#[derive(Drop)]
+#[derive(Clone, Copy)]
 pub struct Users {
     pub ids: [u16; 64],
     pub links: [u8; 64],

@@ -13,7 +13,7 @@ ghost use Rattle.serve_read.specs.Understood.{understood};
 ghost use Rattle.ladlestorm.specs.Held.{domain_in};
 
 use c_fields::Answered;
-use domain_tables::Domain;
+pub use domain_tables::Domain;
 
 pub mod traces;
 
