@@ -1,17 +1,17 @@
 -- Octets laid one behind the other: what `put_octets` and the writers of lengths, ids and integers leave. Assumes nothing.
-use mathlib.Core.Path.{◌≡◌, refl, ap, ◌∙◌}
+use mathlib.Core.Path.{◌≡◌, refl, sym, ap, ◌∙◌}
 use mathlib.Core.Bool.{true}
-use mathlib.Core.List.{List, [], ◌∷◌, ◌++◌, append_assoc}
+use mathlib.Core.List.{List, [], ◌∷◌, ◌++◌, append_assoc, append-nil}
 use Prim.Native.Nat.{ℕ, zero, suc, ◌+◌, ◌-◌, ◌^◌, ◌<◌, ◌≤◌}
 use native.Mathlib.Nat.{div-one}
+use native.Mathlib.Numerals.{add-one}
 use native.Mathlib.Omega.{arith}
-use lib.ListN.{length, take, drop, length-append, length-take, length-drop}
-use lib.Seq.{take_all}
+use lib.ListN.{length, take, drop, get_or, set, length-append, length-drop, length-set}
+use lib.Seq.{take_all, take-suc, take-suc-set}
 use lib.Dec.{leb}
 use borrow.Author.Tests.{le-ltb, lt-ltb, leb-true}
 use Rattle.std.specs.Int.{w32, to_be_bytes}
-use Rattle.std.proofs.lemmas.Slice.{take-put_mid}
-use borrow.Rule.Slice.PartMut.{put_mid, same_len_mid}
+use Rattle.std.proofs.lemmas.List.{get_or-drop}
 use Rattle.codec_octets.specs.Octets.{octets_of, length_octets, size, fits_item, write_item, an_id, a_number}
 use Rattle.codec_octets.proofs.OctetLaws.{size_holds, both_left, both_right}
 use Rattle.codec_size.proofs.LengthLaws.{length_octets_lem, length_one, number_length}
@@ -29,16 +29,49 @@ last_octets (suc (suc (suc zero))) v h l = next_octet (omega arith) (next_octet 
 last_octets (suc (suc (suc (suc zero)))) v h l = next_octet (omega arith) (next_octet (omega arith) (next_octet (omega arith) (next_octet (omega arith) refl)))
 last_octets (suc (suc (suc (suc (suc k))))) v h l = absurd (omega arith)
 
-pub octets_lay : (s : List ℕ) (i k v : ℕ) {os bs : List ℕ} → i + k ≤ length s → k ≤ 4 → v < 256 ^ k → os ≡ take (4 - (4 - k)) (drop (4 - k) bs) → bs ≡ to_be_bytes w32 v
-    → Lays s i (octets_of k v) (put_mid i (i + k - i) s os) (i + k)
-octets_lay s i k v {os} {bs} room h l e f =
-    let n : length bs ≡ 4 = ap length f in
-    let same : os ≡ octets_of k v = e ∙ take_all (4 - (4 - k)) (drop (4 - k) bs) (simp length-drop (omega arith)) ∙ rw f (last_octets k v h l) in
-    let few : length os ≡ k = ap length same ∙ length_octets_lem k v in
+-- j octets of a number were looked at, and the last k of its four are laid as far as they are among those
+pub record Laying (s : List ℕ) (i k : ℕ) (bs : List ℕ) (s' : List ℕ) (j at : ℕ) : Type 0 where
+  pub place : at ≡ i + (j + k - 4)
+  pub laid : take at s' ≡ take i s ++ take (j + k - 4) (drop (4 - k) bs)
+  pub size : length s' ≡ length s
+
+pub laying_start : {s : List ℕ} {i k : ℕ} {bs : List ℕ} → k ≤ 4 → Laying s i k bs s 0 i
+laying_start {s} {i} {k} {bs} h =
+    let none : 0 + k - 4 ≡ 0 = omega arith in
+    record { place = omega arith; laid = rw none (sym (append-nil (take i s))); size = refl }
+
+pub laying_more : {s : List ℕ} {i k : ℕ} {bs s' : List ℕ} {j at : ℕ} → Laying s i k bs s' j at → i + k ≤ length s → k ≤ 4 → j < 4 → length bs ≡ 4 → 4 ≤ j + k → Laying s i k bs (set s' at (get_or bs j 0)) (j + 1) (at + 1)
+laying_more {s} {i} {k} {bs} {s'} {j} {at} l room h few n t =
+    let m = j + k - 4 in
+    let next : j + 1 + k - 4 ≡ suc m = omega arith in
+    let here : (4 - k) + m ≡ j = omega arith in
+    let octet : get_or (drop (4 - k) bs) m 0 ≡ get_or bs j 0 = get_or-drop (4 - k) bs m 0 ∙ ap (λ q. get_or bs q 0) here in
     record {
-      lays = take-put_mid i (i + k - i) s os (i + k) (omega arith) (omega arith) ∙ rw same;
-      ends = rw (length_octets_lem k v);
-      size = same_len_mid i (i + k - i) s os (simp (length-take, length-drop) (omega arith));
+      place = omega (arith, l.place);
+      laid =
+          ap (λ q. take q (set s' at (get_or bs j 0))) (add-one at)
+          ∙ take-suc-set s' at (get_or bs j 0) (omega (arith, l.place, l.size))
+          ∙ ap (λ z. z ++ (get_or bs j 0 ∷ [])) l.laid
+          ∙ append_assoc (take i s) (take m (drop (4 - k) bs)) (get_or bs j 0 ∷ [])
+          ∙ ap (λ v. take i s ++ (take m (drop (4 - k) bs) ++ (v ∷ []))) (sym octet)
+          ∙ ap (λ z. take i s ++ z) (sym (take-suc (drop (4 - k) bs) m 0 (omega (arith, length-drop (4 - k) bs))))
+          ∙ ap (λ q. take i s ++ take q (drop (4 - k) bs)) (sym next);
+      size = length-set s' at (get_or bs j 0) ∙ l.size;
+    }
+
+pub laying_past : {s : List ℕ} {i k : ℕ} {bs s' : List ℕ} {j at : ℕ} → Laying s i k bs s' j at → j + k < 4 → Laying s i k bs s' (j + 1) at
+laying_past {k = k} {j = j} l t =
+    let same : j + 1 + k - 4 ≡ j + k - 4 = omega arith in
+    record { place = rw same l.place; laid = rw same l.laid; size = l.size }
+
+pub laying_all : {s : List ℕ} {i k : ℕ} {bs s' : List ℕ} {j at : ℕ} (v : ℕ) → Laying s i k bs s' j at → k ≤ 4 → v < 256 ^ k → bs ≡ to_be_bytes w32 v → 4 ≤ j → j ≤ 4 → Lays s i (octets_of k v) s' at
+laying_all {s} {i} {k} {bs} {j = j} v l h few e a b =
+    let all : j + k - 4 ≡ k = omega arith in
+    let n : length bs ≡ 4 = ap length e in
+    record {
+      lays = l.laid ∙ ap (λ q. take i s ++ take q (drop (4 - k) bs)) all ∙ ap (λ z. take i s ++ z) (take_all k (drop (4 - k) bs) (omega (arith, length-drop (4 - k) bs)) ∙ rw e (last_octets k v h few));
+      ends = l.place ∙ ap (λ q. i + q) (all ∙ sym (length_octets_lem k v));
+      size = l.size;
     }
 
 -- one part behind the other

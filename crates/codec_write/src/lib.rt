@@ -37,14 +37,20 @@ fn put_bits(s: &mut [u8], at: usize, width: u32, v: u32)
     }
 }
 
-// A number in k octets, the most significant first, from octet i on.
+// A number in k octets, the most significant first, from octet i on. A loop, and no copy_from_slice: that would call memcpy, and the codec for C calls nothing.
 fn put_octets(s: &mut [u8], i: usize, k: usize, v: u32) -> usize
     requires { (i + k ≤ length s.old) × (k ≤ 4) × (v < 256 ^ k) }
     ensures { Lays s.old i (octets_of k v) s.new result }
 {
     let octets = v.to_be_bytes();
-    s[i..i + k].copy_from_slice(&octets[4 - k..]);
-    i + k
+    let mut at = i;
+    for j in 0..4 {
+        if 4 <= j + k {
+            s[at] = octets[j];
+            at += 1;
+        }
+    }
+    at
 }
 
 // A length, an id above the lowest of its kind, an integer with its length: from octet i on, to the octet behind.
