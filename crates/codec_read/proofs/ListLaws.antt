@@ -2,17 +2,18 @@
 use mathlib.Core.Path.{◌≡◌, refl, sym, ap, ◌∙◌, subst}
 use mathlib.Core.Bool.{Bool, true, false, cond}
 use mathlib.Core.List.{List, [], ◌∷◌, ◌++◌, append_assoc, append-nil}
-use Prim.Native.Nat.{ℕ, zero, suc, ◌+◌, ◌-◌, ◌%◌, ◌<◌, ◌≤◌}
+use Prim.Native.Nat.{ℕ, zero, suc, ◌+◌, ◌-◌, ◌*◌, ◌%◌, ◌<◌, ◌≤◌}
 use native.Mathlib.Nat.{mod-eq_of_lt, sub-zero}
 use native.Mathlib.Numerals.{add-one}
 use native.Mathlib.Omega.{arith}
-use lib.ListN.{length, take, drop, set, length-drop, length-set, replicate}
+use lib.ListN.{length, take, drop, get_or, set, length-drop, length-set, replicate}
 use lib.Seq.{take-suc-set, drop-drop, length-take-le}
 use lib.Dec.{leb, eqb}
 use borrow.Author.Tests.{le-leb, lt-leb, ne_eqb, leb-true}
 use Rattle.codec_table.specs.Limits.{list_limit, string_limit}
 use Rattle.codec_octets.specs.Octets.{Read, got, no, follow, need, give, number, Item, an_octet, an_id, read_item, read_items, read_length, Tail, read_tail}
 use Rattle.codec_octets.proofs.OctetLaws.{followed, needed}
+use Rattle.codec_octets.proofs.Reading.{id_over, id_is}
 use Rattle.codec_table.specs.Messages.{channels, users, string}
 use Rattle.codec_octets.specs.Places.{Octetwise}
 use Rattle.codec_table.specs.Columns.{tail_of}
@@ -114,9 +115,33 @@ module _ {s : List ℕ} {item : Item} {from count : ℕ} {vs : List ℕ} {at i :
             ∙ prepend_one (take i vs) g.value (read_items item (count - (i + 1)) (drop g.next s))));
       }
 
-pub ids_no : {s : List ℕ} {low from count : ℕ} {vs : List ℕ} {at i : ℕ} {before : List ℕ} → Sofar s (an_id low) from count vs at i → i < count → (r : Refusal)
-    → Octetwise s (Err r) (read_item (an_id low) (drop at s)) → ReadsItems s false true (Err r) before vs (read_items (an_id low) count (drop from s))
-ids_no {s} o m r t = items_no s false true r _ (sofar_no o m r t)
+-- fewer octets than the ids take
+ids_short : (low n : ℕ) (xs : List ℕ) → length xs < n * 2 → read_items (an_id low) n xs ≡ no 5
+unfolding read_item
+ids_short low zero xs h = absurd (omega arith)
+ids_short low (suc n) [] h = refl
+ids_short low (suc n) (x ∷ []) h = refl
+ids_short low (suc n) (x ∷ y ∷ xs) h = go (leb ((0 * 256 + x) * 256 + y + low) 65535) (ids_short low n xs (omega arith))
+  where
+    go : (t : Bool) → read_items (an_id low) n xs ≡ no 5 → follow (need t 5 (give ((0 * 256 + x) * 256 + y + low)) xs) (λ v os. follow (read_items (an_id low) n os) (λ us. give (v ∷ us))) ≡ no 5
+    go true e = ap (λ r. follow r (λ us. give (((0 * 256 + x) * 256 + y + low) ∷ us))) e
+    go false e = refl
+
+pub ids_few : (s : List ℕ) (low from count : ℕ) (before after : List ℕ) → from ≤ length s → length s - from < count * 2 → ReadsItems s false true (Err BadEncoding) before after (read_items (an_id low) count (drop from s))
+ids_few s low from count before after h l = items_no s false true BadEncoding _ (ids_short low count (drop from s) (omega (arith, length-drop from s)))
+
+-- the octets of the ids that are still to be read are there
+pub record Owed (s : List ℕ) (low from count : ℕ) (vs : List ℕ) (at i : ℕ) : Type 0 where
+  pub sofar : Sofar s (an_id low) from count vs at i
+  pub there : at + (count - i) * 2 ≤ length s
+
+pub owed_none : (s : List ℕ) (low from count : ℕ) (vs : List ℕ) → from ≤ length s → vs ≡ replicate list_limit 0 → count * 2 ≤ length s - from → Owed s low from count vs from 0
+owed_none s low from count vs h p l = record { sofar = sofar_none s (an_id low) from count vs h p; there = omega arith }
+
+pub ids_over : {s : List ℕ} {low from count : ℕ} {vs : List ℕ} {at i : ℕ} {before : List ℕ} → Owed s low from count vs at i → i < count → (o p : ℕ) → o ≡ get_or s at 0 → p ≡ get_or s (at + 1) 0
+    → 65535 < o * 256 + p + low → ReadsItems s false true (Err BadEncoding) before vs (read_items (an_id low) count (drop from s))
+ids_over {s} {low} {at = at} w m o p e f n =
+    items_no s false true BadEncoding _ (sofar_no w.sofar m BadEncoding (id_over s at low (omega (arith, w.there)) o p (o * 256 + p + low) e (omega (arith, w.there)) f refl n))
 
 pub ids_more : {s : List ℕ} {low from count : ℕ} {vs : List ℕ} {at i : ℕ} → Sofar s (an_id low) from count vs at i → i < count → (g : Got)
     → Octetwise s (Ok g) (read_item (an_id low) (drop at s)) → i < list_limit → Sofar s (an_id low) from count (set vs i (g.value % 65536)) g.next (i + 1)
@@ -125,10 +150,21 @@ ids_more {s} {low} {at = at} o m g t h =
     let z : g.value % 65536 ≡ g.value = mod-eq_of_lt (omega arith) in
     rw z (sofar_more o m g t h)
 
-pub ids_all : {s : List ℕ} {low from count : ℕ} {before vs : List ℕ} {at i : ℕ} → Sofar s (an_id low) from count vs at i → count ≤ i → count ≤ list_limit
+pub owed_more : {s : List ℕ} {low from count : ℕ} {vs : List ℕ} {at i : ℕ} → Owed s low from count vs at i → i < count → (o p : ℕ) → o ≡ get_or s at 0 → p ≡ get_or s (at + 1) 0
+    → o * 256 + p + low ≤ 65535 → i < list_limit → Owed s low from count (set vs i ((o * 256 + p + low) % 65536)) (at + 2) (i + 1)
+owed_more {s} {low} {from} {count} {vs} {at} {i} w m o p e f n h =
+    let two : at + 2 ≡ at + 1 + 1 = omega arith in
+    rw two
+    (record {
+      sofar = ids_more w.sofar m _ (id_is s at low (omega (arith, w.there)) o p (o * 256 + p + low) e (omega (arith, w.there)) f refl n) h;
+      there = omega (arith, w.there);
+    })
+
+pub ids_all : {s : List ℕ} {low from count : ℕ} {before vs : List ℕ} {at i : ℕ} → Owed s low from count vs at i → count ≤ i → count ≤ list_limit
     → ReadsItems s false true (Ok (record { items = Ids count; next = at })) before vs (read_items (an_id low) count (drop from s))
 unfolding prepend
-ids_all {count = count} {vs = vs} {i = i} o h few =
+ids_all {count = count} {vs = vs} {i = i} w h few =
+    let o = w.sofar in
     let z : i ≡ count = omega (arith, o.within) in
     let room : i ≤ length vs = omega (arith, o.places) in
     let y : count - i ≡ 0 = omega arith in

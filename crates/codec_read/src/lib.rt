@@ -132,7 +132,7 @@ fn take_field(s: &[u8], at: usize, kind: u8) -> Result<Got, Refusal>
 
 // The fields read: their values, and the bit behind them.
 #[derive(Clone, Copy)]
-struct Fields {
+pub struct Fields {
     values: [u32; 4],
     at: usize,
 }
@@ -184,8 +184,8 @@ struct Taken {
     next: usize,
 }
 
-// Some ids, stored; the cells behind the last are 0.
-#[tactic(auto, using(crate::proofs::ListLaws::sofar_none, crate::proofs::ListLaws::ids_no, crate::proofs::ListLaws::ids_more, crate::proofs::ListLaws::ids_all))]
+// Some ids, stored; the cells behind the last are 0. That octets are missing is seen once for all of them: the loop has no test for it.
+#[tactic(auto, using(crate::proofs::ListLaws::owed_none, crate::proofs::ListLaws::ids_few, crate::proofs::ListLaws::ids_over, crate::proofs::ListLaws::ids_all))]
 fn read_ids(
     s: &[u8],
     from: usize,
@@ -197,11 +197,18 @@ fn read_ids(
     ensures { ReadsItems s.now false true result ids.old ids.new (read_items (an_id low) count (drop from s.now)) }
 {
     *ids = [0u16; LIST_LIMIT];
+    let are_missing = s.len() - from < count * 2;
+    if are_missing {
+        return Err(Refusal::BadEncoding);
+    }
     let mut at = from;
     for i in 0..count {
-        let g = read_id(s, at, low)?;
-        ids[i] = (g.value % 65536) as u16;
-        at = g.next;
+        let id = wide(s[at]) * 256 + wide(s[at + 1]) + low as u32;
+        if 65535 < id {
+            return Err(Refusal::BadEncoding);
+        }
+        ids[i] = (id % 65536) as u16;
+        at += 2;
     }
     Ok(Taken {
         items: Items::Ids(count),
