@@ -1,6 +1,8 @@
 // The trace program's run: reads frames, plays each on the domain, and prints a line for each.
 #![tactic(auto)]
 
+ghost use Rattle.std.specs.Prelude.{◌≤◌, length, IfSome};
+
 use domain::Limits;
 use domain::answer::Answer;
 use domain::numbers::Reply;
@@ -47,7 +49,9 @@ fn event(
 }
 
 // Takes the frame at the front of s and plays it; none where the trace is over.
-fn take_frame(s: &[u8], d: &mut Domain, room: &mut [u8; ROOM]) -> Option<Taken> {
+fn take_frame(s: &[u8], d: &mut Domain, room: &mut [u8; ROOM]) -> Option<Taken>
+    ensures { IfSome result (λ t. IfSome t.size (λ n. n ≤ length s.now)) }
+{
     match trace_frames::next_frame(s) {
         Frame::End => None,
         Frame::Bad => Some(Taken {

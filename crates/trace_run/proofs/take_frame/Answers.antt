@@ -11,3 +11,6 @@ slice_bounds-event-start c = (inside _ _ _ _ _ (sym c.in-Good.ensures)).0
 
 pub slice_bounds-event-end : goal.slice_bounds-event-end
 slice_bounds-event-end c = (inside _ _ _ _ _ (sym c.in-Good.ensures)).1
+
+pub returns-in-Good : goal.returns-in-Good
+returns-in-Good c = (inside _ _ _ _ _ (sym c.in-Good.ensures)).1
