@@ -28,20 +28,20 @@ use Rattle.explain_words.specs.Letters.{ascii}
 use Rattle.explain_frame.specs.Frames.{event_texts, octets_line, refused_texts, stray_texts, wrong_texts, bad_texts, good_texts, kind_by, message_in, front_texts}
 
 -- texts that do not depend on the stop
-pub tells_plain : (os : List ℕ) (texts : Stop → List (List ℕ)) {o x : Lines} {ts : List (List ℕ)} → SaysTo o ts x → ((s : Stop) → ts ≡ texts s) → Tells os texts o x
+pub tells_plain : (os : List ℕ) (texts : Stop → List (List ℕ)) {n : ℕ} {o x : Lines n} {ts : List (List ℕ)} → SaysTo o ts x → ((s : Stop) → ts ≡ texts s) → Tells os texts o x
 tells_plain os texts h e =
     let r = some_refusal os in
     let s : Stop = record { refusal = r.0; bit = 0; part = End; why = Read } in
     record { stop = s; refusal = r.1; says = says_as h (e s) }
 
 -- the same texts, told otherwise; behind others; and with others behind them
-pub tells_as : {os : List ℕ} {a b : Stop → List (List ℕ)} {o x : Lines} → Tells os a o x → ((s : Stop) → a s ≡ b s) → Tells os b o x
+pub tells_as : {os : List ℕ} {a b : Stop → List (List ℕ)} {n : ℕ} {o x : Lines n} → Tells os a o x → ((s : Stop) → a s ≡ b s) → Tells os b o x
 tells_as t e = record { stop = t.stop; refusal = t.refusal; says = says_as t.says (e t.stop) }
 
-pub tells_then : {os : List ℕ} {a : Stop → List (List ℕ)} {o x y : Lines} {ts : List (List ℕ)} → SaysTo o ts x → Tells os a x y → Tells os (λ s. ts ++ a s) o y
+pub tells_then : {os : List ℕ} {a : Stop → List (List ℕ)} {n : ℕ} {o x y : Lines n} {ts : List (List ℕ)} → SaysTo o ts x → Tells os a x y → Tells os (λ s. ts ++ a s) o y
 tells_then h t = record { stop = t.stop; refusal = t.refusal; says = says_then h t.says }
 
-pub tells_more : {os : List ℕ} {a : Stop → List (List ℕ)} {o x y : Lines} {us : List (List ℕ)} → Tells os a o x → SaysTo x us y → Tells os (λ s. a s ++ us) o y
+pub tells_more : {os : List ℕ} {a : Stop → List (List ℕ)} {n : ℕ} {o x y : Lines n} {us : List (List ℕ)} → Tells os a o x → SaysTo x us y → Tells os (λ s. a s ++ us) o y
 tells_more t h = record { stop = t.stop; refusal = t.refusal; says = says_then t.says h }
 
 -- the event of a kind
@@ -102,18 +102,18 @@ kind_by_lem Loss = refl
 kind_by_lem Message = refl
 
 module _ (reply : ℕ) (s : List ℕ) where
-  fronts : (a : Front) {o x : Lines} → a ≡ front s → Tells (message_in s a) (front_texts reply s a) o x → Tells (message_in s (front s)) (front_texts reply s (front s)) o x
+  fronts : (a : Front) {n : ℕ} {o x : Lines n} → a ≡ front s → Tells (message_in s a) (front_texts reply s a) o x → Tells (message_in s (front s)) (front_texts reply s (front s)) o x
   fronts a e t = rw (← e) t
 
-  pub front_over : {o x : Lines} → over ≡ front s → SaysTo o (ascii ": end\n" ∷ []) x → Tells (message_in s (front s)) (front_texts reply s (front s)) o x
+  pub front_over : {n : ℕ} {o x : Lines n} → over ≡ front s → SaysTo o (ascii ": end\n" ∷ []) x → Tells (message_in s (front s)) (front_texts reply s (front s)) o x
   unfolding front_texts
   front_over e h = fronts over e (tells_plain (message_in s over) (front_texts reply s over) h (λ _. refl))
 
-  pub front_bad : {o x : Lines} → refused 11 ≡ front s → SaysTo o (bad_texts s) x → Tells (message_in s (front s)) (front_texts reply s (front s)) o x
+  pub front_bad : {n : ℕ} {o x : Lines n} → refused 11 ≡ front s → SaysTo o (bad_texts s) x → Tells (message_in s (front s)) (front_texts reply s (front s)) o x
   unfolding front_texts
   front_bad e h = fronts (refused 11) e (tells_plain (message_in s (refused 11)) (front_texts reply s (refused 11)) h (λ _. refl))
 
-  pub front_good : (k : Kind) (connection start size : ℕ) {o x : Lines} → frame (kind_number k) connection start size ≡ front s
+  pub front_good : (k : Kind) (connection start size : ℕ) {n : ℕ} {o x : Lines n} → frame (kind_number k) connection start size ≡ front s
       → Tells (take (size - start) (drop start s)) (good_texts reply k connection (take (size - start) (drop start s))) o x
       → Tells (message_in s (front s)) (front_texts reply s (front s)) o x
   unfolding front_texts message_in

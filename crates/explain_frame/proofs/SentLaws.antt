@@ -63,7 +63,7 @@ first_end zero s e = refl
 first_end (suc n) s e = rw (eq-eqb (record_size s) 0 e) refl
 
 -- a loop that tells records: those from `from` on are not told yet, and the next has so many octets
-pub record Sending (s : List ℕ) (old new : Lines) (from size : ℕ) : Type 0 where
+pub record Sending (s : List ℕ) {n : ℕ} (old new : Lines n) (from size : ℕ) : Type 0 where
   pub next : size ≡ record_size (drop from s)
   pub inside : from + size ≤ length s
   pub least : 0 < size → 4 ≤ size
@@ -71,7 +71,7 @@ pub record Sending (s : List ℕ) (old new : Lines) (from size : ℕ) : Type 0 w
   pub enough : length s ≤ from + turns
   pub onward : Onward old (records_texts s) new (first_texts turns (drop from s))
 
-pub sending_start : {s : List ℕ} {old : Lines} (size : ℕ) → size ≡ record_size s → Sending s old old 0 size
+pub sending_start : {s : List ℕ} {n : ℕ} {old : Lines n} (size : ℕ) → size ≡ record_size s → Sending s old old 0 size
 unfolding records_texts
 sending_start {s} size e =
     let k = size_kept s in
@@ -84,7 +84,7 @@ sending_start {s} size e =
       onward = onward_start;
     }
 
-pub sending_more : {s : List ℕ} {old mid new : Lines} {from size : ℕ} (n : ℕ) → Sending s old mid from size → 0 < size
+pub sending_more : {s : List ℕ} {w : ℕ} {old mid new : Lines w} {from size : ℕ} (n : ℕ) → Sending s old mid from size → 0 < size
     → n ≡ record_size (take (length s - (from + size)) (drop (from + size) s)) → SaysTo mid (record_texts (take (from + size - from) (drop from s))) new
     → Sending s old new (from + size) n
 sending_more {s} {from = from} {size = size} n t h e told =
@@ -109,11 +109,11 @@ sending_more {s} {from = from} {size = size} n t h e told =
     }
 
 -- the next record has its connection
-pub sending_whole : {s : List ℕ} {old new : Lines} {from size : ℕ} → Sending s old new from size → 0 < size → 4 ≤ length (take (from + size - from) (drop from s))
+pub sending_whole : {s : List ℕ} {n : ℕ} {old new : Lines n} {from size : ℕ} → Sending s old new from size → 0 < size → 4 ≤ length (take (from + size - from) (drop from s))
 sending_whole {s} {from = from} {size = size} t h =
     omega (arith, length-take-le (from + size - from) (drop from s) (omega (arith, t.inside, length-drop from s)), t.least h)
 
-pub sending_end : {s : List ℕ} {old new : Lines} {from size : ℕ} → Sending s old new from size → size ≤ 0 → SaysTo old (records_texts s) new
+pub sending_end : {s : List ℕ} {n : ℕ} {old new : Lines n} {from size : ℕ} → Sending s old new from size → size ≤ 0 → SaysTo old (records_texts s) new
 sending_end {s} {from = from} t h = onward_end (first_texts t.turns (drop from s)) t.onward (first_end t.turns (drop from s) (omega (arith, t.next)))
 
 -- the first octets of the room, where it has so many

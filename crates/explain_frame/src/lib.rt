@@ -18,7 +18,7 @@ use trace_frames::{Frame, Kind};
 use trace_io::lines::{Lines, Report};
 
 // A text and the number behind it.
-fn put_count(lines: &mut Lines, text: &[u8], n: u64)
+fn put_count<const N: usize>(lines: &mut Lines<N>, text: &[u8], n: u64)
     ensures { SaysTo lines.old (text.now ∷ decimal n ∷ []) lines.new }
 {
     lines.say(text);
@@ -26,7 +26,7 @@ fn put_count(lines: &mut Lines, text: &[u8], n: u64)
 }
 
 // The event of a good frame: a message in words.
-fn put_event(lines: &mut Lines, kind: Kind, connection: u8, message: &[u8])
+fn put_event<const N: usize>(lines: &mut Lines<N>, kind: Kind, connection: u8, message: &[u8])
     ensures { SaysTo lines.old (event_texts kind connection message.now) lines.new }
 {
     match kind {
@@ -41,7 +41,7 @@ fn put_event(lines: &mut Lines, kind: Kind, connection: u8, message: &[u8])
 }
 
 // The line of octets in hexadecimal.
-fn put_octets_line(lines: &mut Lines, octets: &[u8])
+fn put_octets_line<const N: usize>(lines: &mut Lines<N>, octets: &[u8])
     ensures { SaysTo lines.old (octets_line octets.now) lines.new }
 {
     lines.say(b"  octets");
@@ -50,7 +50,7 @@ fn put_octets_line(lines: &mut Lines, octets: &[u8])
 }
 
 // A message that was not read, or that a connection that is not open sent and that cannot be read: its octets, and for 5 and 8 where reading stopped.
-fn put_refused(lines: &mut Lines, reply: u64, message: &[u8])
+fn put_refused<const N: usize>(lines: &mut Lines<N>, reply: u64, message: &[u8])
     ensures { Tells message.now (refused_texts reply message.now) lines.old lines.new }
 {
     if reply < 4 {
@@ -66,7 +66,7 @@ fn put_refused(lines: &mut Lines, reply: u64, message: &[u8])
 }
 
 // The octets of a message on a connection that is not open, where they cannot be read.
-fn put_unread(lines: &mut Lines, reply: u64, kind: Kind, message: &[u8])
+fn put_unread<const N: usize>(lines: &mut Lines<N>, reply: u64, kind: Kind, message: &[u8])
     ensures { Tells message.now (wrong_texts reply kind message.now) lines.old lines.new }
 {
     if reply != 2 {
@@ -87,7 +87,7 @@ fn put_unread(lines: &mut Lines, reply: u64, kind: Kind, message: &[u8])
 }
 
 // Users, channels and tokens in use.
-fn put_counts(lines: &mut Lines, report: Report)
+fn put_counts<const N: usize>(lines: &mut Lines<N>, report: Report)
     ensures { SaysTo lines.old (counts_texts report) lines.new }
 {
     put_count(lines, b", users ", report.users);
@@ -96,7 +96,7 @@ fn put_counts(lines: &mut Lines, report: Report)
 }
 
 // The line of the reply: its number and meaning, octets sent, users, channels and tokens in use.
-fn put_reply(lines: &mut Lines, report: Report)
+fn put_reply<const N: usize>(lines: &mut Lines<N>, report: Report)
     ensures { SaysTo lines.old (reply_texts report) lines.new }
 {
     put_count(lines, b"  reply ", report.reply);
@@ -127,7 +127,7 @@ fn bad_size(s: &[u8]) -> usize
 }
 
 // A bad frame: its octets.
-fn put_bad(lines: &mut Lines, s: &[u8])
+fn put_bad<const N: usize>(lines: &mut Lines<N>, s: &[u8])
     ensures { SaysTo lines.old (bad_texts s.now) lines.new }
 {
     lines.say(b": bad frame\n");
@@ -136,7 +136,13 @@ fn put_bad(lines: &mut Lines, s: &[u8])
 }
 
 // A good frame: its event, and what was wrong with its message.
-fn put_good(lines: &mut Lines, kind: Kind, connection: u8, message: &[u8], reply: u64)
+fn put_good<const N: usize>(
+    lines: &mut Lines<N>,
+    kind: Kind,
+    connection: u8,
+    message: &[u8],
+    reply: u64,
+)
     ensures { Tells message.now (good_texts reply kind connection message.now) lines.old lines.new }
 {
     put_event(lines, kind, connection, message);
@@ -145,7 +151,7 @@ fn put_good(lines: &mut Lines, kind: Kind, connection: u8, message: &[u8], reply
 }
 
 // What stands at the front of s, in words.
-fn put_front(lines: &mut Lines, s: &[u8], reply: u64)
+fn put_front<const N: usize>(lines: &mut Lines<N>, s: &[u8], reply: u64)
     ensures { Tells (message_in s.now (front s.now)) (front_texts reply s.now (front s.now)) lines.old lines.new }
 {
     let found = trace_frames::next_frame(s);
@@ -170,7 +176,7 @@ fn put_front(lines: &mut Lines, s: &[u8], reply: u64)
 }
 
 // The records sent: the first so many octets of the room.
-fn put_sent(lines: &mut Lines, room: &[u8], sent: u64)
+fn put_sent<const N: usize>(lines: &mut Lines<N>, room: &[u8], sent: u64)
     ensures { SaysTo lines.old (sent_texts sent room.now) lines.new }
 {
     let k = (sent % 65536) as usize;
@@ -181,8 +187,8 @@ fn put_sent(lines: &mut Lines, room: &[u8], sent: u64)
 }
 
 // A frame, the number of which is given, in words: what stands at the front of s, the reply, the records, the tokens that changed since.
-pub fn put_frame(
-    lines: &mut Lines,
+pub fn put_frame<const N: usize>(
+    lines: &mut Lines<N>,
     number: u64,
     s: &[u8],
     report: Report,

@@ -23,7 +23,7 @@ fn size_at(records: &[u8]) -> usize
 }
 
 // A record: to which connection, and the message in words.
-fn put_record(lines: &mut Lines, one: &[u8])
+fn put_record<const N: usize>(lines: &mut Lines<N>, one: &[u8])
     requires { 4 ≤ length one.now }
     ensures { SaysTo lines.old (record_texts one.now) lines.new }
 {
@@ -35,7 +35,7 @@ fn put_record(lines: &mut Lines, one: &[u8])
 }
 
 // Records one behind the other.
-pub fn put_records(lines: &mut Lines, records: &[u8])
+pub fn put_records<const N: usize>(lines: &mut Lines<N>, records: &[u8])
     ensures { SaysTo lines.old (records_texts records.now) lines.new }
 {
     let mut from = 0;

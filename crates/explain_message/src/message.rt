@@ -12,7 +12,7 @@ use explain_words::words::{say_named, say_word};
 use trace_io::lines::Lines;
 
 // The value of a field of a kind of the table of messages: a code by its name, an id or an integer in decimal.
-fn put_value(lines: &mut Lines, kind: u8, value: u32)
+fn put_value<const N: usize>(lines: &mut Lines<N>, kind: u8, value: u32)
     ensures { SaysTo lines.old (value_text kind value ∷ []) lines.new }
 {
     match kind {
@@ -25,7 +25,7 @@ fn put_value(lines: &mut Lines, kind: u8, value: u32)
 }
 
 // Field i of a message, its name and its value, each behind a space.
-fn put_field(lines: &mut Lines, number: u32, i: usize, value: u32)
+fn put_field<const N: usize>(lines: &mut Lines<N>, number: u32, i: usize, value: u32)
     ensures { SaysTo lines.old (field_texts number i value) lines.new }
 {
     lines.say(b" ");
@@ -35,7 +35,7 @@ fn put_field(lines: &mut Lines, number: u32, i: usize, value: u32)
 }
 
 // The first fields of a message.
-fn put_fields(lines: &mut Lines, number: u32, values: &[u32])
+fn put_fields<const N: usize>(lines: &mut Lines<N>, number: u32, values: &[u32])
     ensures { SaysTo lines.old (each (field_texts number) 0 values.now) lines.new }
 {
     for (i, value) in values.iter().enumerate() {
@@ -44,7 +44,7 @@ fn put_fields(lines: &mut Lines, number: u32, values: &[u32])
 }
 
 // An id behind a space.
-pub fn put_id(lines: &mut Lines, id: u16)
+pub fn put_id<const N: usize>(lines: &mut Lines<N>, id: u16)
     ensures { SaysTo lines.old (id_texts id) lines.new }
 {
     lines.say(b" ");
@@ -52,7 +52,7 @@ pub fn put_id(lines: &mut Lines, id: u16)
 }
 
 // Ids, each behind a space.
-fn put_ids(lines: &mut Lines, ids: &[u16])
+fn put_ids<const N: usize>(lines: &mut Lines<N>, ids: &[u16])
     ensures { SaysTo lines.old (each ids_texts 0 ids.now) lines.new }
 {
     for id in ids {
@@ -61,7 +61,7 @@ fn put_ids(lines: &mut Lines, ids: &[u16])
 }
 
 // A list of ids, or that there is none.
-fn put_list(lines: &mut Lines, ids: &[u16])
+fn put_list<const N: usize>(lines: &mut Lines<N>, ids: &[u16])
     ensures { SaysTo lines.old (list_texts ids.now) lines.new }
 {
     if ids.len() == 0 {
@@ -72,7 +72,7 @@ fn put_list(lines: &mut Lines, ids: &[u16])
 }
 
 // Octets, or that there are none.
-pub fn put_octets(lines: &mut Lines, octets: &[u8])
+pub fn put_octets<const N: usize>(lines: &mut Lines<N>, octets: &[u8])
     ensures { SaysTo lines.old (octets_texts octets.now) lines.new }
 {
     if octets.len() == 0 {
@@ -83,7 +83,7 @@ pub fn put_octets(lines: &mut Lines, octets: &[u8])
 }
 
 // The items of a message: its string in the octets read, or its ids.
-fn put_items(lines: &mut Lines, items: Items, ids: &[u16], octets: &[u8])
+fn put_items<const N: usize>(lines: &mut Lines<N>, items: Items, ids: &[u16], octets: &[u8])
     ensures { SaysTo lines.old (items_texts items ids.now octets.now) lines.new }
 {
     match items {
@@ -99,7 +99,13 @@ fn put_items(lines: &mut Lines, items: Items, ids: &[u16], octets: &[u8])
 }
 
 // What follows the fields, by its kind in the table of messages: its name, and the items.
-fn put_tail(lines: &mut Lines, kind: u8, items: Items, ids: &[u16], octets: &[u8])
+fn put_tail<const N: usize>(
+    lines: &mut Lines<N>,
+    kind: u8,
+    items: Items,
+    ids: &[u16],
+    octets: &[u8],
+)
     ensures { SaysTo lines.old (tail_texts kind items ids.now octets.now) lines.new }
 {
     if kind == 0 {
@@ -111,7 +117,7 @@ fn put_tail(lines: &mut Lines, kind: u8, items: Items, ids: &[u16], octets: &[u8
 }
 
 // A message that is not read: its name, or its number where it has none, or nothing where there are no octets.
-fn put_unread(lines: &mut Lines, octets: &[u8])
+fn put_unread<const N: usize>(lines: &mut Lines<N>, octets: &[u8])
     ensures { SaysTo lines.old (unread_texts octets.now) lines.new }
 {
     if octets.len() == 0 {
@@ -128,7 +134,7 @@ fn put_unread(lines: &mut Lines, octets: &[u8])
 }
 
 // A message that is read of some octets: its name, its fields, and what follows them.
-fn put_read(lines: &mut Lines, octets: &[u8], d: Decoded)
+fn put_read<const N: usize>(lines: &mut Lines<N>, octets: &[u8], d: Decoded)
     ensures { SaysTo lines.old (read_texts octets.now d) lines.new }
 {
     let number = d.head.number;
@@ -143,7 +149,7 @@ fn put_read(lines: &mut Lines, octets: &[u8], d: Decoded)
 }
 
 // A message in words, of any octets.
-pub fn put_message(lines: &mut Lines, octets: &[u8])
+pub fn put_message<const N: usize>(lines: &mut Lines<N>, octets: &[u8])
     ensures { SaysTo lines.old (message_texts octets.now (decoded octets.now (decode_of octets.now))) lines.new }
 {
     match codec_read::decode(octets) {

@@ -58,7 +58,7 @@ stop_texts os s =
     ++ ascii " in " ∷ part_text (number_in os) s.part ∷ ascii ": " ∷ word (placed why_words 11 (why_place s.why)) ∷ ascii "\n" ∷ []
 
 -- texts that may tell of a stop are said, for a stop with the refusal that decoding these octets gives
-pub record Tells (os : List ℕ) (texts : Stop → List (List ℕ)) (old new : Lines) : Type 0 where
+pub record Tells (os : List ℕ) (texts : Stop → List (List ℕ)) {n : ℕ} (old new : Lines n) : Type 0 where
   pub stop : Stop
   pub refusal : told stop.refusal ≡ refusal_of (decode_of os)
   pub says : SaysTo old (texts stop) new

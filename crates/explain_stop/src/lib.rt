@@ -10,7 +10,7 @@ use explain_words::words::{say_named, say_word};
 use trace_io::lines::Lines;
 
 // The part of a message: its number, a field or what follows the fields by name, or the end.
-fn put_part(lines: &mut Lines, number: u32, part: Part)
+fn put_part<const N: usize>(lines: &mut Lines<N>, number: u32, part: Part)
     ensures { SaysTo lines.old (part_text number part ∷ []) lines.new }
 {
     match part {
@@ -67,7 +67,7 @@ fn number_of(octets: &[u8]) -> u32
 }
 
 // An octet and a bit, counted from 0.
-fn put_place(lines: &mut Lines, bit: usize)
+fn put_place<const N: usize>(lines: &mut Lines<N>, bit: usize)
     ensures { SaysTo lines.old (place_texts bit) lines.new }
 {
     lines.say(b"  stopped at octet ");
@@ -77,7 +77,7 @@ fn put_place(lines: &mut Lines, bit: usize)
 }
 
 // The line that says where reading stopped: the octet and the bit, the part of the message, and why.
-pub fn put_stop(lines: &mut Lines, octets: &[u8])
+pub fn put_stop<const N: usize>(lines: &mut Lines<N>, octets: &[u8])
     ensures { Tells octets.now (stop_texts octets.now) lines.old lines.new }
 {
     let s = codec_stop::where_stopped(octets);

@@ -18,10 +18,10 @@ use Rattle.domain.specs.declared.token.Holding.{Holding}
 use Rattle.explain_tokens.specs.Holders.{over, picked_from, holding_texts}
 
 -- a loop that tells the ids of a column in ascending order: it turned i times, and ids up to `low` are told
-pub record Rising (f : ℕ → List (List ℕ)) (ids : List ℕ) (old new : Lines) (low i : ℕ) : Type 0 where
+pub record Rising (f : ℕ → List (List ℕ)) (ids : List ℕ) {n : ℕ} (old new : Lines n) (low i : ℕ) : Type 0 where
   pub onward : Onward old (over f (in_order ids)) new (over f (rising (length ids - i) low ids))
 
-pub rising_start : {f : ℕ → List (List ℕ)} {ids : List ℕ} {old : Lines} → Rising f ids old old 0 0
+pub rising_start : {f : ℕ → List (List ℕ)} {ids : List ℕ} {n : ℕ} {old : Lines n} → Rising f ids old old 0 0
 unfolding in_order
 rising_start {ids = ids} = let all : length ids - 0 ≡ length ids = omega arith in record { onward = rw all onward_start }
 
@@ -34,7 +34,7 @@ turned : (f : ℕ → List (List ℕ)) (ids : List ℕ) (low left k : ℕ) → k
 turned f ids low zero k e n h = absurd (omega arith)
 turned f ids low (suc m) k e n h = ap (λ l. over f l) (rising_turn m low ids k (sym e) (omega arith)) ∙ told f ids m k
 
-pub rising_more : {f : ℕ → List (List ℕ)} {ids : List ℕ} {old mid new : Lines} {low i : ℕ} (k : ℕ) → Rising f ids old mid low i → k ≡ next low 0 ids → (k ≡ 0 → ⊥) → i < length ids
+pub rising_more : {f : ℕ → List (List ℕ)} {ids : List ℕ} {n : ℕ} {old mid new : Lines n} {low i : ℕ} (k : ℕ) → Rising f ids old mid low i → k ≡ next low 0 ids → (k ≡ 0 → ⊥) → i < length ids
     → SaysTo mid (f k) new → Rising f ids old new k (i + 1)
 rising_more {f = f} {ids = ids} {low = low} {i = i} k t e n h s =
     let left = length ids - i in
@@ -46,10 +46,10 @@ unfolding over rising
 ended f ids low zero e = refl
 ended f ids low (suc m) e = ap (λ l. over f l) (rising_end m low ids e)
 
-pub rising_done : {f : ℕ → List (List ℕ)} {ids : List ℕ} {old new : Lines} {low i : ℕ} (k : ℕ) → Rising f ids old new low i → k ≡ next low 0 ids → k ≡ 0 → SaysTo old (over f (in_order ids)) new
+pub rising_done : {f : ℕ → List (List ℕ)} {ids : List ℕ} {n : ℕ} {old new : Lines n} {low i : ℕ} (k : ℕ) → Rising f ids old new low i → k ≡ next low 0 ids → k ≡ 0 → SaysTo old (over f (in_order ids)) new
 rising_done {f = f} {ids = ids} {low = low} {i = i} k t e z = onward_end (over f (rising (length ids - i) low ids)) t.onward (ended f ids low (length ids - i) (sym e ∙ z))
 
-pub rising_over : {f : ℕ → List (List ℕ)} {ids : List ℕ} {old new : Lines} {low i : ℕ} → Rising f ids old new low i → length ids ≤ i → SaysTo old (over f (in_order ids)) new
+pub rising_over : {f : ℕ → List (List ℕ)} {ids : List ℕ} {n : ℕ} {old new : Lines n} {low i : ℕ} → Rising f ids old new low i → length ids ≤ i → SaysTo old (over f (in_order ids)) new
 unfolding over rising
 rising_over {f = f} {ids = ids} {low = low} {i = i} t h =
     let none : length ids - i ≡ 0 = omega arith in

@@ -14,7 +14,7 @@ use domain_tables::{Tokens, Users};
 use trace_io::lines::Lines;
 
 // The ids of a column, ascending, each behind a space.
-fn put_rising(lines: &mut Lines, ids: &[u16])
+fn put_rising<const N: usize>(lines: &mut Lines<N>, ids: &[u16])
     ensures { SaysTo lines.old (over id_texts (in_order ids.now)) lines.new }
 {
     let mut low: u16 = 0;
@@ -40,7 +40,7 @@ fn members(users: &Users, us: u64) -> [u16; 64]
 }
 
 // A user's id behind a text.
-fn put_user(lines: &mut Lines, text: &[u8], users: &Users, i: u8)
+fn put_user<const N: usize>(lines: &mut Lines<N>, text: &[u8], users: &Users, i: u8)
     ensures { SaysTo lines.old (text.now ∷ id_texts (get_or users.now.ids i 0)) lines.new }
 {
     lines.say(text);
@@ -48,7 +48,7 @@ fn put_user(lines: &mut Lines, text: &[u8], users: &Users, i: u8)
 }
 
 // The state of a token.
-fn put_holding(lines: &mut Lines, users: &Users, h: Holding)
+fn put_holding<const N: usize>(lines: &mut Lines<N>, users: &Users, h: Holding)
     ensures { SaysTo lines.old (holding_texts users.now.ids h) lines.new }
 {
     match h {
@@ -67,7 +67,7 @@ fn put_holding(lines: &mut Lines, users: &Users, h: Holding)
 }
 
 // A token's line.
-fn put_token(lines: &mut Lines, users: &Users, k: u16, h: Holding)
+fn put_token<const N: usize>(lines: &mut Lines<N>, users: &Users, k: u16, h: Holding)
     ensures { SaysTo lines.old (token_texts users.now.ids k h) lines.new }
 {
     lines.say(b"  token ");
@@ -78,7 +78,7 @@ fn put_token(lines: &mut Lines, users: &Users, k: u16, h: Holding)
 }
 
 // A line for each token of a list, ascending.
-fn put_tokens(lines: &mut Lines, users: &Users, tokens: &Tokens, list: &[u16])
+fn put_tokens<const N: usize>(lines: &mut Lines<N>, users: &Users, tokens: &Tokens, list: &[u16])
     ensures { SaysTo lines.old (over (state_texts users.now.ids (tokens_in tokens.now)) (in_order list.now)) lines.new }
 {
     let mut low: u16 = 0;
@@ -116,7 +116,12 @@ fn changes(old: &Tokens, tokens: &Tokens) -> [u16; 128]
 }
 
 // A line for each token that changed since, ascending; the table before becomes the one after.
-pub fn put_changes(lines: &mut Lines, users: &Users, tokens: &Tokens, old: &mut Tokens)
+pub fn put_changes<const N: usize>(
+    lines: &mut Lines<N>,
+    users: &Users,
+    tokens: &Tokens,
+    old: &mut Tokens,
+)
     ensures { SaysTo lines.old (change_texts users.now.ids (tokens_in old.old) (tokens_in tokens.now)) lines.new
         × (old.new ≡ tokens.now) }
 {
@@ -128,7 +133,7 @@ pub fn put_changes(lines: &mut Lines, users: &Users, tokens: &Tokens, old: &mut 
 }
 
 // The table: how many tokens are in use, and a line for each.
-pub fn put_table(lines: &mut Lines, users: &Users, tokens: &Tokens)
+pub fn put_table<const N: usize>(lines: &mut Lines<N>, users: &Users, tokens: &Tokens)
     ensures { SaysTo lines.old (table_texts users.now.ids (tokens_in tokens.now)) lines.new }
 {
     lines.say(b"tokens in use: ");

@@ -186,7 +186,7 @@ fn size_of(row: &[u8]) -> usize
 }
 
 // Says a word.
-pub fn say_word(lines: &mut Lines, n: usize)
+pub fn say_word<const N: usize>(lines: &mut Lines<N>, n: usize)
     ensures { SaysTo lines.old (word n ∷ []) lines.new }
 {
     let table = ROWS;
@@ -198,7 +198,7 @@ pub fn say_word(lines: &mut Lines, n: usize)
 }
 
 // Says the word for a value among so many from a group's first on; for any other, a question mark.
-pub fn say_named(lines: &mut Lines, group: usize, count: u32, value: u32)
+pub fn say_named<const N: usize>(lines: &mut Lines<N>, group: usize, count: u32, value: u32)
     ensures { SaysTo lines.old (word (placed group count value) ∷ []) lines.new }
 {
     if count <= value || NONE <= group {

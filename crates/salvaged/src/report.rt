@@ -1,7 +1,7 @@
 // What is told on standard error, line by line.
 use std::io::{Cursor, Error, Write};
 use trace_frames::fault::Fault;
-use trace_io::lines::{ERRORS, Lines};
+use trace_io::lines::{ERRORS, LARGE, Lines};
 
 // No line is longer. Each is written in one piece.
 const LINE: usize = 128;
@@ -18,7 +18,7 @@ fn words(fault: Fault) -> &'static [u8] {
 }
 
 // The line of a span that is cut out.
-pub fn tell_cut(lines: &mut Lines, start: u64, size: u64, fault: Option<Fault>) {
+pub fn tell_cut(lines: &mut Lines<LARGE>, start: u64, size: u64, fault: Option<Fault>) {
     lines.make_room(LINE);
     lines.say_number(start);
     lines.say(b" ");
@@ -31,7 +31,7 @@ pub fn tell_cut(lines: &mut Lines, start: u64, size: u64, fault: Option<Fault>) 
 }
 
 // The last line: what is kept, and what is cut.
-pub fn tell_all(lines: &mut Lines, kept: u64, cut: u64, spans: u64) {
+pub fn tell_all(lines: &mut Lines<LARGE>, kept: u64, cut: u64, spans: u64) {
     lines.make_room(LINE);
     lines.say(b"octets kept: ");
     lines.say_number(kept);

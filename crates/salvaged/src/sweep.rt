@@ -5,7 +5,7 @@ use salvage_window::{Stand, Turn, cut_size, lead, turn_over};
 use std::io::{Error, ErrorKind, Read, Write};
 use trace_frames::fault::Fault;
 use trace_io::input::Span;
-use trace_io::lines::{ERRORS, Lines};
+use trace_io::lines::{ERRORS, LARGE, Lines};
 
 // So many octets decide what is done at a place: two frames.
 const ENOUGH: usize = 131074;
@@ -161,7 +161,7 @@ fn keep<W: Write>(output: &mut W, out: &mut [u8], os: &[u8], run: Run) -> Run {
 }
 
 // A cut goes on, or ends here.
-fn cut(lines: &mut Lines, run: Run) -> Run {
+fn cut(lines: &mut Lines<LARGE>, run: Run) -> Run {
     let stand = run.stand;
     if stand.cutting {
         return run;
@@ -188,7 +188,7 @@ fn advance<W: Write>(
     output: &mut W,
     buf: &[u8],
     out: &mut [u8],
-    lines: &mut Lines,
+    lines: &mut Lines<LARGE>,
     run: Run,
 ) -> Run {
     let w = window(buf, run.span);
@@ -214,7 +214,7 @@ fn step<R: Read, W: Write>(
     output: &mut W,
     buf: &mut [u8],
     out: &mut [u8],
-    lines: &mut Lines,
+    lines: &mut Lines<LARGE>,
     run: Run,
 ) -> Run {
     if is_short(run.span) {
@@ -229,7 +229,7 @@ fn play<R: Read, W: Write>(
     output: &mut W,
     buf: &mut [u8],
     out: &mut [u8],
-    lines: &mut Lines,
+    lines: &mut Lines<LARGE>,
 ) -> Run {
     let mut run = begin();
     for _ in 0..u64::MAX {
@@ -250,7 +250,7 @@ fn last<W: Write>(output: &mut W, out: &[u8], run: Run) -> Run {
 }
 
 // Writes what waits, and behind it the totals, or why the run ended before.
-fn finish<W: Write>(output: &mut W, out: &[u8], lines: &mut Lines, run: Run) {
+fn finish<W: Write>(output: &mut W, out: &[u8], lines: &mut Lines<LARGE>, run: Run) {
     let r = last(output, out, run);
     if r.failure.is_none() {
         super::report::tell_all(lines, r.kept, r.cut, r.spans);
@@ -267,7 +267,7 @@ fn finish<W: Write>(output: &mut W, out: &[u8], lines: &mut Lines, run: Run) {
 pub fn salvage<R: Read, W: Write>(input: &mut R, output: &mut W) {
     let mut buf = window_room();
     let mut out = io::large_buffer();
-    let mut lines = Lines::to(ERRORS);
+    let mut lines = Lines::<LARGE>::to(ERRORS);
     let run = play(input, output, &mut buf, &mut out, &mut lines);
     finish(output, &out, &mut lines, run);
 }

@@ -5,19 +5,19 @@
 use salvage::Salvaged;
 use std::io::Read;
 use trace_io::input::read_full;
-use trace_io::lines::{Lines, OUTPUT};
+use trace_io::lines::{LARGE, Lines, OUTPUT};
 
 // What a room holds before: so it is seen what stays.
 const BLANK: u8 = 170;
 
 // A number, and a space behind it.
-fn put_number(lines: &mut Lines, n: u64) {
+fn put_number(lines: &mut Lines<LARGE>, n: u64) {
     lines.say_number(n);
     lines.say(b" ");
 }
 
 // The line of a case.
-fn show(lines: &mut Lines, r: Salvaged, out: &[u8], list: &[u8]) {
+fn show(lines: &mut Lines<LARGE>, r: Salvaged, out: &[u8], list: &[u8]) {
     put_number(lines, r.reply as u64);
     put_number(lines, r.kept as u64);
     put_number(lines, r.cuts as u64);
@@ -28,7 +28,7 @@ fn show(lines: &mut Lines, r: Salvaged, out: &[u8], list: &[u8]) {
 }
 
 // A trace, salvaged into these rooms, and its line.
-fn play(trace: &[u8], out: &mut [u8], list: &mut [u8], lines: &mut Lines) {
+fn play(trace: &[u8], out: &mut [u8], list: &mut [u8], lines: &mut Lines<LARGE>) {
     out.fill(BLANK);
     list.fill(BLANK);
     let r = salvage::salvage(trace, out, list);
@@ -44,7 +44,7 @@ struct Sizes {
 }
 
 // A case in rooms of just its lengths; nothing where there is too little room for them.
-fn play_in(sizes: Sizes, trace: &[u8], out: &mut [u8], list: &mut [u8], lines: &mut Lines) {
+fn play_in(sizes: Sizes, trace: &[u8], out: &mut [u8], list: &mut [u8], lines: &mut Lines<LARGE>) {
     if sizes.trace <= trace.len() && sizes.out <= out.len() && sizes.list <= list.len() {
         play(
             &trace[..sizes.trace],
@@ -79,7 +79,7 @@ fn run_case<R: Read>(
     trace: &mut [u8],
     out: &mut [u8],
     list: &mut [u8],
-    lines: &mut Lines,
+    lines: &mut Lines<LARGE>,
 ) -> bool {
     let Some(sizes) = read_sizes(input) else {
         return false;
@@ -96,7 +96,7 @@ fn main(rt: HostRuntime) {
     let mut trace = io::large_buffer();
     let mut out = io::large_buffer();
     let mut list = io::large_buffer();
-    let mut lines = Lines::to(OUTPUT);
+    let mut lines = Lines::<LARGE>::to(OUTPUT);
     // Case by case to the end of the input; the count only makes the loop end.
     for _ in 0..u64::MAX {
         if !run_case(&mut input, &mut trace, &mut out, &mut list, &mut lines) {

@@ -17,7 +17,7 @@ fn digit(n: u8) -> u8
     }
 }
 
-impl Lines {
+impl<const N: usize> Lines<N> {
     // Says an octet, behind a space where it is to stand apart.
     fn say_octet(&mut self, octet: u8, apart: bool)
         ensures { SaysTo self.old (octet_text apart octet ∷ []) self.new }

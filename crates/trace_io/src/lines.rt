@@ -9,6 +9,9 @@ pub const OUTPUT: i32 = 1;
 
 pub const ERRORS: i32 = 2;
 
+// The octets of a room that makes few calls of the system for many frames: what the programs say to.
+pub const LARGE: usize = 65536;
+
 // What a frame prints.
 #[derive(Clone, Copy)]
 pub struct Report {
@@ -57,20 +60,20 @@ fn fits(filled: usize, size: usize, room: usize) -> bool
 // Texts on their way to a descriptor: those that wait are the first octets of the room, and are written where there is no room for more. The descriptor
 // stays.
 #[derive(Drop)]
-pub struct Lines {
-    room: [u8; 65536],
+pub struct Lines<const N: usize> {
+    room: [u8; N],
     filled: usize,
     to: i32,
 }
 
-impl Lines {
+impl<const N: usize> Lines<N> {
     // Nothing waits; what is said goes to this descriptor.
-    pub fn to(descriptor: i32) -> Lines
+    pub fn to(descriptor: i32) -> Lines<N>
         ensures none { result.filled ≡ 0 }
         ensures there { result.to ≡ descriptor }
     {
         Lines {
-            room: [0; 65536],
+            room: [0; N],
             filled: 0,
             to: descriptor,
         }
@@ -81,13 +84,13 @@ impl Lines {
         ensures { SaysTo self.old (text.now ∷ []) self.new }
     {
         let size = text.len();
-        if fits(self.filled, size, 65536) {
+        if fits(self.filled, size, N) {
             lay(&mut self.room, self.filled, text);
             self.filled += size;
             return;
         }
         self.flush();
-        if size <= 65536 {
+        if size <= N {
             lay(&mut self.room, 0, text);
             self.filled = size;
             return;
@@ -121,7 +124,7 @@ impl Lines {
     pub fn make_room(&mut self, size: usize)
         ensures { self.new ≡ with_room size self.old }
     {
-        if !fits(self.filled, size, 65536) {
+        if !fits(self.filled, size, N) {
             self.flush();
         }
     }
@@ -134,7 +137,7 @@ impl Lines {
     {
         let filled = self.filled;
         self.filled = 0;
-        if 65536 < filled {
+        if N < filled {
             return false;
         }
         io::write_all(self.to, &self.room[..filled])

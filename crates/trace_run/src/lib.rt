@@ -10,7 +10,7 @@ use domain_tables::{Channels, Domain, Members, Tokens, Users};
 use std::io::Read;
 use trace_frames::{Frame, Kind};
 use trace_io::input::Span;
-use trace_io::lines::{Lines, OUTPUT, Report};
+use trace_io::lines::{LARGE, Lines, OUTPUT, Report};
 
 // Room for answers that never meets reply 9.
 const ROOM: usize = 17200;
@@ -85,7 +85,7 @@ fn report(answer: Answer, d: &Domain) -> Report {
 }
 
 // Says the line of a report, and behind it the octets sent on a line of their own.
-fn say_sent(lines: &mut Lines, report: Report, room: &[u8; ROOM]) {
+fn say_sent(lines: &mut Lines<LARGE>, report: Report, room: &[u8; ROOM]) {
     lines.say_report(report);
     let sent = (report.sent % 65536) as usize;
     if sent <= ROOM {
@@ -96,7 +96,7 @@ fn say_sent(lines: &mut Lines, report: Report, room: &[u8; ROOM]) {
 
 // Shows a frame in the form of the run.
 fn show(
-    lines: &mut Lines,
+    lines: &mut Lines<LARGE>,
     form: Form,
     number: u64,
     s: &[u8],
@@ -127,7 +127,7 @@ fn step<R: Read>(
     source: &mut R,
     input: &mut [u8],
     have: Span,
-    lines: &mut Lines,
+    lines: &mut Lines<LARGE>,
     form: Form,
     number: u64,
     d: &mut Domain,
@@ -144,7 +144,7 @@ fn step<R: Read>(
 }
 
 // A proved loop has to end, and nothing says that the input does: the frames are counted up to a number that no run reaches.
-fn play<R: Read>(source: &mut R, lines: &mut Lines, form: Form, d: &mut Domain) {
+fn play<R: Read>(source: &mut R, lines: &mut Lines<LARGE>, form: Form, d: &mut Domain) {
     let mut input = [0u8; 131072];
     let mut room = [0u8; ROOM];
     let mut old_tokens = no_tokens();
@@ -170,7 +170,7 @@ fn play<R: Read>(source: &mut R, lines: &mut Lines, form: Form, d: &mut Domain) 
 // A fresh domain with limits 128, 64, 64, and frames from a source. The input's buffer holds the longest frame, 65,537 octets, and as much again, so that few octets are
 // moved. The tokens as they were before a frame stand beside the tables, for a run in words, which ends with their table.
 pub fn run<R: Read>(form: Form, source: &mut R) {
-    let mut lines = Lines::to(OUTPUT);
+    let mut lines = Lines::<LARGE>::to(OUTPUT);
     let mut d = empty();
     serve_session::start(&mut d, 128, 64, 64);
     play(source, &mut lines, form, &mut d);

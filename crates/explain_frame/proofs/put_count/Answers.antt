@@ -3,4 +3,4 @@ use Rattle.trace_io.proofs.Saying.{says_then}
 use Rattle.explain_frame.proofs.put_count.Goals as goal
 
 pub returns : goal.returns
-returns c = says_then c.say.ensures c.say_number.ensures
+returns g c = says_then c.say.ensures c.say_number.ensures

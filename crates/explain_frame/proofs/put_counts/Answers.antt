@@ -6,4 +6,4 @@ use Rattle.explain_frame.proofs.put_counts.Goals as goal
 
 pub returns : goal.returns
 unfolding ascii counts_texts
-returns c = says_then c.put_count.ensures (says_then c.put_count-2.ensures c.put_count-3.ensures)
+returns g c = says_then c.put_count.ensures (says_then c.put_count-2.ensures c.put_count-3.ensures)

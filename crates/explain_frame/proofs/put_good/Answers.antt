@@ -7,4 +7,4 @@ use Rattle.explain_frame.proofs.put_good.Goals as goal
 
 pub returns : goal.returns
 unfolding ascii good_texts
-returns c = tells_as (tells_then {x = c.put_event.new.lines} c.put_event.ensures (tells_then {x = c.say.new.self} c.say.ensures c.put_unread.ensures)) (λ _. refl)
+returns g c = tells_as (tells_then {x = c.put_event.new.lines} c.put_event.ensures (tells_then {x = c.say.new.self} c.say.ensures c.put_unread.ensures)) (λ _. refl)

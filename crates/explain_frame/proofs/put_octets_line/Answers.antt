@@ -6,4 +6,4 @@ use Rattle.explain_frame.proofs.put_octets_line.Goals as goal
 
 pub returns : goal.returns
 unfolding ascii octets_line
-returns c = says_then c.say.ensures (says_then c.put_octets.ensures c.say-2.ensures)
+returns g c = says_then c.say.ensures (says_then c.put_octets.ensures c.say-2.ensures)

@@ -6,4 +6,4 @@ use Rattle.explain_frame.proofs.put_reply.Goals as goal
 
 pub returns : goal.returns
 unfolding ascii reply_texts
-returns c = says_then c.put_count.ensures (says_then c.say.ensures (says_then c.say_named.ensures (says_then c.put_count-2.ensures (says_then c.put_counts.ensures c.say-2.ensures))))
+returns g c = says_then c.put_count.ensures (says_then c.say.ensures (says_then c.say_named.ensures (says_then c.put_count-2.ensures (says_then c.put_counts.ensures c.say-2.ensures))))

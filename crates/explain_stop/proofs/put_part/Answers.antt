@@ -11,16 +11,16 @@ use Rattle.explain_stop.proofs.put_part.Goals as goal
 
 pub returns-in-Number : goal.returns-in-Number
 unfolding part_text
-returns-in-Number c = says_as c.say_named.ensures (part_is c.args.number c.args.part Number (search rules))
+returns-in-Number g c = says_as c.say_named.ensures (part_is c.args.number c.args.part Number (search rules))
 
 pub returns-in-Field : goal.returns-in-Field
 unfolding part_text
-returns-in-Field c = says_as c.say_word.ensures (ap (λ w. word w ∷ []) c.field_word.ensures ∙ part_is c.args.number c.args.part _ c.in-Field.is)
+returns-in-Field g c = says_as c.say_word.ensures (ap (λ w. word w ∷ []) c.field_word.ensures ∙ part_is c.args.number c.args.part _ c.in-Field.is)
 
 pub returns-in-Items : goal.returns-in-Items
 unfolding part_text
-returns-in-Items c = says_as c.say_named-in-Items.ensures (ap (λ w. word (placed part_words 3 w) ∷ []) (c.before-in-Items.ensures ∙ ap items_place c.tail_of.ensures) ∙ part_is c.args.number c.args.part Items (search rules))
+returns-in-Items g c = says_as c.say_named-in-Items.ensures (ap (λ w. word (placed part_words 3 w) ∷ []) (c.before-in-Items.ensures ∙ ap items_place c.tail_of.ensures) ∙ part_is c.args.number c.args.part Items (search rules))
 
 pub returns-in-End : goal.returns-in-End
 unfolding part_text
-returns-in-End c = says_as c.say_named-in-End.ensures (part_is c.args.number c.args.part End (search rules))
+returns-in-End g c = says_as c.say_named-in-End.ensures (part_is c.args.number c.args.part End (search rules))

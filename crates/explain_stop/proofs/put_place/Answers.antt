@@ -6,4 +6,4 @@ use Rattle.explain_stop.proofs.put_place.Goals as goal
 
 pub returns : goal.returns
 unfolding ascii place_texts
-returns c = says_then c.say.ensures (says_then c.say_number.ensures (says_then c.say-2.ensures c.say_number-2.ensures))
+returns g c = says_then c.say.ensures (says_then c.say_number.ensures (says_then c.say-2.ensures c.say_number-2.ensures))

@@ -9,7 +9,7 @@ use Rattle.explain_stop.proofs.put_stop.Goals as goal
 
 pub returns : goal.returns
 unfolding ascii stop_texts
-returns c =
+returns g c =
     let s = c.where_stopped-s.result in
     let part = says_as c.put_part.ensures (ap (λ n. part_text n s.part ∷ []) c.number_of.ensures) in
     let why = says_as c.say_named.ensures (ap (λ n. word (placed why_words 11 n) ∷ []) c.place_of.ensures) in

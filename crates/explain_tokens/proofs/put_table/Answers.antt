@@ -9,4 +9,4 @@ use Rattle.explain_tokens.proofs.put_table.Goals as goal
 
 pub returns : goal.returns
 unfolding ascii table_texts
-returns c = says_then c.say.ensures (says_then (says_as c.say_number.ensures (ap (λ n. decimal n ∷ []) c.used.ensures)) (says_then c.say-2.ensures c.put_tokens.ensures))
+returns g c = says_then c.say.ensures (says_then (says_as c.say_number.ensures (ap (λ n. decimal n ∷ []) c.used.ensures)) (says_then c.say-2.ensures c.put_tokens.ensures))

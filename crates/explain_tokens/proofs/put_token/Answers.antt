@@ -9,4 +9,4 @@ use Rattle.explain_tokens.proofs.put_token.Goals as goal
 
 pub returns : goal.returns
 unfolding ascii token_texts
-returns c = says_then (says_then c.say.ensures (says_then (says_as c.say_number.ensures (ap (λ n. decimal n ∷ []) c.from.ensures)) (says_then c.say-2.ensures c.put_holding.ensures))) c.say-3.ensures
+returns g c = says_then (says_then c.say.ensures (says_then (says_as c.say_number.ensures (ap (λ n. decimal n ∷ []) c.from.ensures)) (says_then c.say-2.ensures c.put_holding.ensures))) c.say-3.ensures

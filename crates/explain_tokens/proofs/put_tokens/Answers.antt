@@ -5,15 +5,15 @@ use Rattle.explain_tokens.proofs.HolderLaws.{rising_start, rising_more, rising_d
 use Rattle.explain_tokens.proofs.put_tokens.Goals as goal
 
 pub loop-init : goal.loop-init
-loop-init c = rising_start
+loop-init g c = rising_start
 
 pub returns-then-k-eq0 : goal.returns-then-k-eq0
-returns-then-k-eq0 c = rising_done c.next-k.result c.loop.invariant c.next-k.ensures c.if-k-eq0.true
+returns-then-k-eq0 g c = rising_done c.next-k.result c.loop.invariant c.next-k.ensures c.if-k-eq0.true
 
 pub loop-preserved : goal.loop-preserved
 unfolding state_texts
-loop-preserved c = rising_more c.next-k.result c.loop.invariant c.next-k.ensures c.if-k-eq0.false c.loop-test.true
+loop-preserved g c = rising_more c.next-k.result c.loop.invariant c.next-k.ensures c.if-k-eq0.false c.loop-test.true
     (says_as c.put_token.ensures (ap (λ h. token_texts c.args.users.now.ids c.next-k.result h) c.state.ensures))
 
 pub returns : goal.returns
-returns c = rising_over c.loop.invariant c.loop-test.false
+returns g c = rising_over c.loop.invariant c.loop-test.false

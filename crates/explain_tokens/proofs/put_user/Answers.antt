@@ -5,4 +5,4 @@ use mathlib.Core.Path.{ap}
 use Rattle.explain_tokens.proofs.put_user.Goals as goal
 
 pub returns : goal.returns
-returns c = says_then c.say.ensures (says_as c.put_id.ensures (ap id_texts c.name.ensures))
+returns g c = says_then c.say.ensures (says_as c.put_id.ensures (ap id_texts c.name.ensures))

@@ -13,7 +13,7 @@ use Rattle.explain_frame.proofs.sent.put_record.Goals as goal
 
 pub returns : goal.returns
 unfolding ascii record_texts in_words
-returns c =
+returns g c =
     let s = c.args.one.now in
     let number = says_as c.say_number.ensures (ap (λ n. decimal n ∷ []) c.wide.ensures.0) in
     let message = says_as c.put_message.ensures (ap in_words (take_all (length s - 4) (drop 4 s) (omega (arith, length-drop 4 s)))) in

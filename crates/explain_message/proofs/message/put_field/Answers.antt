@@ -9,7 +9,7 @@ use Rattle.explain_message.proofs.message.put_field.Goals as goal
 
 pub returns : goal.returns
 unfolding ascii field_texts
-returns c =
+returns g c =
     let named = says_as c.say_word.ensures (ap (λ w. word w ∷ []) c.field_word.ensures) in
     let valued = says_as c.put_value.ensures (ap (λ k. value_text k c.args.value ∷ []) c.kind_of.ensures) in
     says_then c.say.ensures (says_then named (says_then c.say-2.ensures valued))

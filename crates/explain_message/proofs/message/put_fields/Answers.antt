@@ -4,7 +4,7 @@ use Rattle.explain_message.proofs.message.put_fields.Goals as goal
 
 pub loop-i-preserved : goal.loop-i-preserved
 unfolding ids_texts
-loop-i-preserved c = on_step c.loop-i.invariant c.loop-i-test.true c.put_field.ensures
+loop-i-preserved g c = on_step c.loop-i.invariant c.loop-i-test.true c.put_field.ensures
 
 pub returns : goal.returns
-returns c = on_end c.loop-i.invariant c.loop-i-test.false
+returns g c = on_end c.loop-i.invariant c.loop-i-test.false

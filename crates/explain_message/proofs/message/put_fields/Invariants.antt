@@ -3,4 +3,4 @@ use Rattle.trace_io.proofs.Saying.{SaysOn}
 use Rattle.explain_message.proofs.message.put_fields.Given as goal
 
 abbrev pub invariant-loop-i : goal.invariant-loop-i
-invariant-loop-i l = SaysOn (field_texts l.number) l.values l.initial.lines l.i l.lines
+invariant-loop-i g l = SaysOn (field_texts l.number) l.values l.initial.lines l.i l.lines

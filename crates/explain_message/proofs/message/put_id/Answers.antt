@@ -6,4 +6,4 @@ use Rattle.explain_message.proofs.message.put_id.Goals as goal
 
 pub returns : goal.returns
 unfolding ascii id_texts
-returns c = says_then c.say.ensures c.say_number.ensures
+returns g c = says_then c.say.ensures c.say_number.ensures

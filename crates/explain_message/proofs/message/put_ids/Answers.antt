@@ -4,7 +4,7 @@ use Rattle.explain_message.proofs.message.put_ids.Goals as goal
 
 pub loop-id-preserved : goal.loop-id-preserved
 unfolding ids_texts
-loop-id-preserved c = on_step c.loop-id.invariant c.loop-id-test.true c.put_id.ensures
+loop-id-preserved g c = on_step c.loop-id.invariant c.loop-id-test.true c.put_id.ensures
 
 pub returns : goal.returns
-returns c = on_end c.loop-id.invariant c.loop-id-test.false
+returns g c = on_end c.loop-id.invariant c.loop-id-test.false

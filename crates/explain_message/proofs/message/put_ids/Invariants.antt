@@ -3,4 +3,4 @@ use Rattle.trace_io.proofs.Saying.{SaysOn}
 use Rattle.explain_message.proofs.message.put_ids.Given as goal
 
 abbrev pub invariant-loop-id : goal.invariant-loop-id
-invariant-loop-id l = SaysOn ids_texts l.ids l.initial.lines l.id-index l.lines
+invariant-loop-id g l = SaysOn ids_texts l.ids l.initial.lines l.id-index l.lines

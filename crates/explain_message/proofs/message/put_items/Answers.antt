@@ -5,8 +5,8 @@ use Rattle.explain_message.proofs.message.put_items.Goals as goal
 
 pub returns-in-Octets : goal.returns-in-Octets
 unfolding items_texts
-returns-in-Octets c = rw (c.in-Octets.is, ← c.min-from.ensures) (rw all_behind at c.put_octets.ensures)
+returns-in-Octets g c = rw (c.in-Octets.is, ← c.min-from.ensures) (rw all_behind at c.put_octets.ensures)
 
 pub returns-in-Ids : goal.returns-in-Ids
 unfolding items_texts
-returns-in-Ids c = rw (c.in-Ids.is, ← c.min-end.ensures) c.put_list.ensures
+returns-in-Ids g c = rw (c.in-Ids.is, ← c.min-end.ensures) c.put_list.ensures

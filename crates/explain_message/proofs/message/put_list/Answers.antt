@@ -6,7 +6,7 @@ use Rattle.explain_message.proofs.message.put_list.Goals as goal
 
 pub returns-then-ids-eq0 : goal.returns-then-ids-eq0
 unfolding ascii
-returns-then-ids-eq0 c = says_as c.say.ensures (list_none c.args.ids.now c.if-ids-eq0.true)
+returns-then-ids-eq0 g c = says_as c.say.ensures (list_none c.args.ids.now c.if-ids-eq0.true)
 
 pub returns : goal.returns
-returns c = says_as c.put_ids.ensures (list_some c.args.ids.now c.if-ids-eq0.false)
+returns g c = says_as c.put_ids.ensures (list_some c.args.ids.now c.if-ids-eq0.false)

@@ -6,7 +6,7 @@ use Rattle.explain_message.proofs.message.put_octets.Goals as goal
 
 pub returns-then-octets-eq0 : goal.returns-then-octets-eq0
 unfolding ascii
-returns-then-octets-eq0 c = says_as c.say.ensures (octets_none c.args.octets.now c.if-octets-eq0.true)
+returns-then-octets-eq0 g c = says_as c.say.ensures (octets_none c.args.octets.now c.if-octets-eq0.true)
 
 pub returns : goal.returns
-returns c = says_as c.say_octets.ensures (octets_some c.args.octets.now c.if-octets-eq0.false)
+returns g c = says_as c.say_octets.ensures (octets_some c.args.octets.now c.if-octets-eq0.false)

@@ -5,4 +5,4 @@ use Rattle.explain_message.proofs.message.put_read.Goals as goal
 
 pub returns : goal.returns
 unfolding read_texts
-returns c = rw (← c.min-have.ensures, ← c.tail_of-kind.ensures) (says_then c.say_named.ensures (says_then c.put_fields.ensures c.put_tail.ensures))
+returns g c = rw (← c.min-have.ensures, ← c.tail_of-kind.ensures) (says_then c.say_named.ensures (says_then c.put_fields.ensures c.put_tail.ensures))

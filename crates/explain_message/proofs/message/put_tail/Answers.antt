@@ -5,11 +5,11 @@ use Rattle.trace_io.proofs.Saying.{says_none, says_then, says_as}
 use Rattle.explain_message.proofs.message.put_tail.Goals as goal
 
 pub returns-then-kind-eq0 : goal.returns-then-kind-eq0
-returns-then-kind-eq0 c = let a = c.args in says_as says_none (tail_none a.kind a.items a.ids.now a.octets.now c.if-kind-eq0.true)
+returns-then-kind-eq0 g c = let a = c.args in says_as says_none (tail_none a.kind a.items a.ids.now a.octets.now c.if-kind-eq0.true)
 
 pub returns : goal.returns
 unfolding ascii
-returns c =
+returns g c =
     let a = c.args in
     says_as (says_then c.say.ensures (says_then c.say_named.ensures c.put_items.ensures))
     (tail_some a.kind a.items a.ids.now a.octets.now c.if-kind-eq0.false)

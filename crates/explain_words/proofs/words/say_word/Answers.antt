@@ -10,11 +10,11 @@ use mathlib.Core.Path.{sym, ap}
 use Rattle.explain_words.proofs.words.say_word.Goals as goal
 
 pub slice_bounds-say-end : goal.slice_bounds-say-end
-slice_bounds-say-end c = sym (length-take-le c.size_of-k.result _ c.size_of-k.ensures.inside)
+slice_bounds-say-end g c = sym (length-take-le c.size_of-k.result _ c.size_of-k.ensures.inside)
 
 pub returns : goal.returns
 unfolding rows rows_of words padded ascii
-returns c =
+returns g c =
     let start = c.start_of-from in
     let size = c.size_of-k in
     says_as c.say.ensures (ap (λ l. l ∷ []) (word_of_row c.args.n start.result size.result start.ensures.1 size.ensures))

@@ -19,29 +19,29 @@ no_room : (filled size room : ℕ) {fits : Bool} → fits ≡ leb (filled + size
 no_room filled size room e t = leb-false (filled + size) room (sym e ∙ t)
 
 pub lay-requires : goal.lay-requires
-lay-requires c =
+lay-requires g c =
     let a = c.args in
-    let l : length a.self.now.room ≡ 65536 = search rules in
-    omega (arith, l, has_room a.self.now.filled (length a.text.now) 65536 c.fits.ensures c.if-fits.true)
+    let l : length a.self.now.room ≡ g.row.N = search rules in
+    omega (arith, l, has_room a.self.now.filled (length a.text.now) g.row.N c.fits.ensures c.if-fits.true)
 
 pub returns-then-fits : goal.returns-then-fits
-returns-then-fits c =
+returns-then-fits g c =
     let s = c.args.self.now in let t = c.args.text.now in
-    let l : length s.room ≡ 65536 = search rules in
-    says_one t (collected_behind s.room s.filled t c.lay.new.out (omega (arith, l, has_room s.filled (length t) 65536 c.fits.ensures c.if-fits.true)) c.lay.ensures) refl
+    let l : length s.room ≡ g.row.N = search rules in
+    says_one t (collected_behind s.room s.filled t c.lay.new.out (omega (arith, l, has_room s.filled (length t) g.row.N c.fits.ensures c.if-fits.true)) c.lay.ensures) refl
 
-pub returns-then-size-le65536 : goal.returns-then-size-le65536
-returns-then-size-le65536 c =
+pub returns-then-size : goal.returns-then-size
+returns-then-size g c =
     let s = c.args.self.now in let t = c.args.text.now in
-    let l : length s.room ≡ 65536 = search rules in
-    let laid = c.lay-then-size-le65536 in
+    let l : length s.room ≡ g.row.N = search rules in
+    let laid = c.lay-then-size in
     says_one t
-    (collected_alone s.room s.filled t laid.new.out (omega (arith, l, no_room s.filled (length t) 65536 c.fits.ensures c.if-fits.false)) (omega (arith, l, c.if-size-le65536.true)) (rw c.flush.ensures.room at laid.ensures))
+    (collected_alone s.room s.filled t laid.new.out (omega (arith, l, no_room s.filled (length t) g.row.N c.fits.ensures c.if-fits.false)) (omega (arith, l, c.if-size.true)) (rw c.flush.ensures.room at laid.ensures))
     c.flush.ensures.stays
 
 pub returns : goal.returns
-returns c =
+returns g c =
     let s = c.args.self.now in let t = c.args.text.now in
-    let l : length s.room ≡ 65536 = search rules in
-    let empty = collected_none s.room s.filled t (omega (arith, l, no_room s.filled (length t) 65536 c.fits.ensures c.if-fits.false)) (omega (arith, l, c.if-size-le65536.false)) in
+    let l : length s.room ≡ g.row.N = search rules in
+    let empty = collected_none s.room s.filled t (omega (arith, l, no_room s.filled (length t) g.row.N c.fits.ensures c.if-fits.false)) (omega (arith, l, c.if-size.false)) in
     says_one t (rw (c.flush.ensures.room, c.flush.ensures.none) empty) c.flush.ensures.stays

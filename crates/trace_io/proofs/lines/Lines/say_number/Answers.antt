@@ -6,7 +6,7 @@ use Rattle.trace_io.proofs.Texts.{few, digits_are}
 use Rattle.trace_io.proofs.lines.Lines.say_number.Goals as goal
 
 pub returns : goal.returns
-returns c =
+returns g c =
     let a = c.args in
     let d = c.decimal-k in
     says_as c.say.ensures

@@ -8,11 +8,11 @@ use Rattle.trace_io.proofs.Texts.{adds_on}
 use Rattle.trace_io.proofs.lines.Lines.say_report.Goals as goal
 
 pub slice_bounds-say-end : goal.slice_bounds-say-end
-slice_bounds-say-end c = let p = c.put_field-e in sym (length-take-le p.result p.new.text (omega arith))
+slice_bounds-say-end g c = let p = c.put_field-e in sym (length-take-le p.result p.new.text (omega arith))
 
 pub returns : goal.returns
 unfolding line_of
-returns c =
+returns g c =
     let a = c.args in
     let two = adds_on c.put_field-a.ensures.laid c.put_field-b.ensures in
     let four = adds_on (adds_on two c.put_field-c.ensures) c.put_field-d.ensures in
