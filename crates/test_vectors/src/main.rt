@@ -8,16 +8,17 @@ mod reading;
 mod room;
 mod writing;
 
+use crate::line::LINE;
 use std::io::Read;
 use trace_io::input::read_full;
-use trace_io::lines::{LARGE, Lines, OUTPUT};
+use trace_io::lines::{Lines, OUTPUT};
 
 const READ: u8 = 0;
 
 const WRITE: u8 = 1;
 
 // The line of a frame: a kind, and its body. A frame that is neither kind gives a question mark.
-fn answer(lines: &mut Lines<LARGE>, frame: &[u8]) {
+fn answer(lines: &mut Lines<LINE>, frame: &[u8]) {
     match frame {
         [READ, body @ ..] => reading::answer(lines, body),
         [WRITE, body @ ..] => writing::answer(lines, body),
@@ -26,7 +27,7 @@ fn answer(lines: &mut Lines<LARGE>, frame: &[u8]) {
 }
 
 // One frame: two octets of length, and that many more; and its line, which is written at once. False where the input ends or the line cannot be written.
-fn run_next<R: Read>(input: &mut R, room: &mut [u8], lines: &mut Lines<LARGE>) -> bool {
+fn run_next<R: Read>(input: &mut R, room: &mut [u8], lines: &mut Lines<LINE>) -> bool {
     let mut head = [0u8; 2];
     if read_full(input, &mut head) < 2 {
         return false;
@@ -43,7 +44,7 @@ fn run_next<R: Read>(input: &mut R, room: &mut [u8], lines: &mut Lines<LARGE>) -
 fn main(rt: HostRuntime) {
     let mut input = rt.stdin();
     let mut room = io::large_buffer();
-    let mut lines = Lines::<LARGE>::to(OUTPUT);
+    let mut lines = Lines::<LINE>::to(OUTPUT);
     // Frame by frame to the end of the input; the count only makes the loop end.
     for _ in 0..u64::MAX {
         if !run_next(&mut input, &mut room, &mut lines) {

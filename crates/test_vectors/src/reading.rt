@@ -1,9 +1,10 @@
 // A message that is read: its number, values and items, and whether it is written again as it was.
 ghost use Rattle.std.specs.Prelude.{◌≤◌};
 
+use crate::line::LINE;
 use crate::{line, room};
 use codec_read::{Head, Items};
-use trace_io::lines::{LARGE, Lines};
+use trace_io::lines::Lines;
 
 // Whether the message is written as these octets, with those behind them left as they were.
 fn is_written_again(
@@ -21,7 +22,7 @@ fn is_written_again(
 }
 
 // The items behind the values: ` : id ..` where they are ids or none, ` # octets` in hexadecimal where they are a string.
-fn put_items(lines: &mut Lines<LARGE>, items: Items, ids: &[u16], octets: &[u8]) {
+fn put_items(lines: &mut Lines<LINE>, items: Items, ids: &[u16], octets: &[u8]) {
     match items {
         Items::Octets { .. } => {
             lines.say(b" # ");
@@ -38,7 +39,7 @@ fn put_items(lines: &mut Lines<LARGE>, items: Items, ids: &[u16], octets: &[u8])
 
 // `number value ..`, the items, and the mark: that the message is written again as it was.
 fn put_message(
-    lines: &mut Lines<LARGE>,
+    lines: &mut Lines<LINE>,
     head: Head,
     values: &[u32],
     ids: &[u16],
@@ -91,7 +92,7 @@ fn string_of<'a>(items: Items, message: &'a [u8]) -> &'a [u8] {
 }
 
 // The line of octets to be read.
-pub fn answer(lines: &mut Lines<LARGE>, message: &[u8]) {
+pub fn answer(lines: &mut Lines<LINE>, message: &[u8]) {
     match codec_read_fast::decode(message) {
         Err(refusal) => line::put_refusal(lines, refusal.into()),
         Ok(d) => {

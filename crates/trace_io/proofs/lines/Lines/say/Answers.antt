@@ -1,6 +1,6 @@
 -- By each place where the text goes.
 use Prim.Native.Nat.{ℕ, ◌+◌, ◌<◌, ◌≤◌}
-use mathlib.Core.Path.{◌≡◌, refl, sym, ◌∙◌}
+use mathlib.Core.Path.{◌≡◌, sym, ◌∙◌}
 use native.Mathlib.Omega.{arith}
 use borrow.Author.Tests.{leb-true, leb-false}
 use mathlib.Core.Bool.{Bool, true, false}
@@ -28,7 +28,7 @@ pub returns-then-fits : goal.returns-then-fits
 returns-then-fits g c =
     let s = c.args.self.now in let t = c.args.text.now in
     let l : length s.room ≡ g.row.N = search rules in
-    says_one t (collected_behind s.room s.filled t c.lay.new.out (omega (arith, l, has_room s.filled (length t) g.row.N c.fits.ensures c.if-fits.true)) c.lay.ensures) refl
+    says_one t (collected_behind s.room s.filled t c.lay.new.out (omega (arith, l, has_room s.filled (length t) g.row.N c.fits.ensures c.if-fits.true)) c.lay.ensures) (search rules)
 
 pub returns-then-size : goal.returns-then-size
 returns-then-size g c =
