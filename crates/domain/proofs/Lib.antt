@@ -9,4 +9,5 @@ pub mod holders
 pub mod hearers
 pub mod Requesting
 pub mod Turning
+pub mod Lending
 pub mod OneNumber
