@@ -1,5 +1,5 @@
--- No event changes the limits. So a caller may lend another limit for a call and put it back: that is the call, where the limit lent is the one that was
--- there. Assumes nothing.
+-- No event changes the limits. So a caller that lends a limit of users equal to the domain's, and puts it back behind the call, has made that call alone.
+-- No code does so: the two answers that are given by this hold for any such limit, so that an edit that lends another is refused for the limit. Assumes nothing.
 use Rattle.std.specs.Prelude.{if◌then◌else◌}
 use mathlib.Core.Path.{◌≡◌, refl, sym, ap, ◌∙◌}
 use mathlib.Core.Bool.{Bool, true, false, not, ◌||◌}
@@ -146,8 +146,8 @@ pub record Call (k : Keeper) (r s : ℕ) (o : List ℕ) : Type 0 where
   pub ends : settled r s left o ≡ k.does on
 
 -- the domain with another limit of users
-abbrev pub with_limit : Domain → ℕ → Domain
-with_limit d n = record {
+abbrev pub with_users_limit : Domain → ℕ → Domain
+with_users_limit d n = record {
   limits = record { channels = d.limits.channels; users = n; tokens = d.limits.tokens };
   links = d.links;
   users = d.users;
@@ -155,10 +155,10 @@ with_limit d n = record {
   tokens = d.tokens;
 }
 
--- A caller whose domain was d has e. It made the call on d but for the limit of users, and e is what the call left but for that limit: `refl`, where nothing
--- else was written. The limit lent was that of d, and so is that of e, where the call kept it.
-pub put_back : (k : Keeper) {r s : ℕ} {o : List ℕ} (d e : Domain) (c : Call k r s o) → with_limit c.on d.limits.users ≡ d → with_limit c.left e.limits.users ≡ e
+-- A caller whose domain is d makes the call on d, and keeps as e what the call leaves, each but for the limit of users: `refl`, where it writes nothing else.
+-- Where the limit lent is that of d, and that of e is too if the call kept it, the caller's answer, e and the room are what k does to d.
+pub put_back : (k : Keeper) {r s : ℕ} {o : List ℕ} (d e : Domain) (c : Call k r s o) → with_users_limit c.on d.limits.users ≡ d → with_users_limit c.left e.limits.users ≡ e
     → c.on.limits.users ≡ d.limits.users → (c.left.limits.users ≡ d.limits.users → e.limits.users ≡ d.limits.users) → settled r s e o ≡ k.does d
 put_back k {r} {s} {o} d e c on_d left_e lent back =
     let kept : c.left.limits.users ≡ d.limits.users = ap (λ (x : Settled Domain). x.tables.limits.users) c.ends ∙ ap (λ (l : Limits). l.users) (k.keeps c.on) ∙ lent in
-    sym (ap (λ x. settled r s x o) (ap (with_limit c.left) (kept ∙ sym (back kept)) ∙ left_e)) ∙ c.ends ∙ ap k.does (ap (with_limit c.on) lent ∙ on_d)
+    sym (ap (λ x. settled r s x o) (ap (with_users_limit c.left) (kept ∙ sym (back kept)) ∙ left_e)) ∙ c.ends ∙ ap k.does (ap (with_users_limit c.on) lent ∙ on_d)

@@ -1,4 +1,4 @@
--- The provider's own equation at this connection, on any limits equal to the domain's, and the answer's numbers.
+-- The provider's own equation at this connection, on any limit of users equal to the domain's, and the answer's numbers.
 use Rattle.std.proofs.Common.{◌∙◌}
 use mathlib.Core.Path.{refl}
 use native.Mathlib.Omega.{arith}
